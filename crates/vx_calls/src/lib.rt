@@ -2,10 +2,16 @@
 #![tactic(auto)]
 
 #[cfg(test)]
+mod bytes;
+#[cfg(test)]
 mod fixtures;
+#[cfg(test)]
+mod ids;
 #[cfg(test)]
 mod orders;
 #[cfg(test)]
 mod sequences;
 #[cfg(test)]
 mod sinks;
+#[cfg(test)]
+mod turns;

@@ -4,7 +4,7 @@ use crate::given::{leaves, push};
 use crate::sessions::scope;
 use anyhow::Result;
 use bytes::Bytes;
-use std::alloc::Global;
+use std::alloc::{AllocError, Global};
 use std::sync::Arc;
 use vx_layout::{
     LayoutChildren, Limits, NodeViews, RawNode, Scope, ViewedChildren, layout_children, view_root,
@@ -36,11 +36,13 @@ fn views_in(alloc: Global, text: &str) -> Result<NodeViews> {
 }
 
 fn bytes_above(alloc: Global, text: &str) -> Result<Vec<u8>> {
-    let node = Box::new(alloc, raw_node(alloc, 0, nodes_in(alloc, text)?)?)?;
-    Ok(write_node(alloc, &node)?)
+    let node = raw_node(alloc, 0, nodes_in(alloc, text)?)?;
+    let bytes = write_node(alloc, &node);
+    drop(node);
+    Ok(bytes?)
 }
 
-fn nodes_in(alloc: Global, text: &str) -> Result<Vec<RawNode>> {
+fn nodes_in(alloc: Global, text: &str) -> Result<Vec<RawNode>, AllocError> {
     let mut nodes = Vec::new(alloc);
     for word in text.split_whitespace() {
         push(&mut nodes, node_in(alloc, word)?)?;
@@ -48,21 +50,24 @@ fn nodes_in(alloc: Global, text: &str) -> Result<Vec<RawNode>> {
     Ok(nodes)
 }
 
-pub fn node_in(alloc: Global, word: &str) -> Result<RawNode> {
+pub fn node_in(alloc: Global, word: &str) -> Result<RawNode, AllocError> {
     match word.split_once('>') {
         Some((above, below)) => node_above(alloc, above, below),
-        None => raw_node(alloc, word.parse::<u16>()?, Vec::new(alloc)),
+        None => raw_node(alloc, index(word), Vec::new(alloc)),
     }
 }
 
-fn node_above(alloc: Global, above: &str, below: &str) -> Result<RawNode> {
-    let index = above.parse::<u16>()?;
-    let leaf = raw_node(alloc, below.parse::<u16>()?, Vec::new(alloc))?;
-    raw_node(alloc, index, vec![in alloc; leaf]?)
+fn node_above(alloc: Global, above: &str, below: &str) -> Result<RawNode, AllocError> {
+    let leaf = raw_node(alloc, index(below), Vec::new(alloc))?;
+    raw_node(alloc, index(above), vec![in alloc; leaf]?)
+}
+
+fn index(word: &str) -> u16 {
+    word.parse::<u16>().unwrap_or(0)
 }
 
 /// Seven rows in segment 3, of the id at the place, above these.
-fn raw_node(alloc: Global, index: u16, children: Vec<RawNode>) -> Result<RawNode> {
+fn raw_node(alloc: Global, index: u16, children: Vec<RawNode>) -> Result<RawNode, AllocError> {
     let segments = vec![in alloc; 3]?;
     Ok(RawNode {
         index,

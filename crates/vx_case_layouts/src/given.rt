@@ -1,7 +1,8 @@
 //! What the words of a case say: types, leaves and bytes.
 
-use anyhow::{Context, Result, bail};
+use anyhow::Result;
 use std::alloc::{AllocError, Global};
+use vx_case_lines::number;
 use vx_layout::{FlatLayout, Layout};
 use vx_model::{ArrayContext, Blob, DType, EncodingId, Nullability, PType, SegmentId};
 
@@ -13,19 +14,18 @@ pub const MAYBE: DType = DType::Primitive(PType::I8, Nullability::Nullable);
 
 pub const FLAGS: DType = DType::Bool(Nullability::NonNullable);
 
-pub fn dtype_in(word: &str) -> Result<DType> {
+/// `utf8` is the one that is left.
+pub fn dtype_in(word: &str) -> DType {
     match word {
-        "u8" => Ok(NUMBERS),
-        "i8?" => Ok(MAYBE),
-        "bool" => Ok(FLAGS),
-        "utf8" => Ok(TEXTS),
-        _ => bail!("no such type"),
+        "u8" => NUMBERS,
+        "i8?" => MAYBE,
+        "bool" => FLAGS,
+        _ => TEXTS,
     }
 }
 
 pub fn bytes_in(alloc: Global, word: &str) -> Result<Vec<u8>> {
-    let text = word.strip_prefix("x").context("no bytes")?;
-    Ok(hex::decode(alloc, text)?)
+    Ok(hex::decode(alloc, word.strip_prefix("x").unwrap_or(word))?)
 }
 
 /// All encodings.
@@ -35,9 +35,9 @@ pub fn encodings(alloc: Global) -> Result<ArrayContext> {
 }
 
 /// So many rows, and their segment.
-pub fn place(text: &str) -> Result<(u64, SegmentId)> {
-    let (rows, segment) = text.split_once(':').context("no segment")?;
-    Ok((rows.parse::<u64>()?, SegmentId(segment.parse::<u32>()?)))
+pub fn place(text: &str) -> (u64, SegmentId) {
+    let (rows, segment) = text.split_once(':').unwrap_or((text, ""));
+    (number(rows), SegmentId(segment.parse::<u32>().unwrap_or(0)))
 }
 
 /// The array tree that the text is; none where it is empty.
@@ -50,11 +50,11 @@ fn tree_in(alloc: Global, text: &str) -> Result<Option<Blob>> {
 
 /// The leaf with an array tree.
 pub fn leaf_with(alloc: Global, word: &str, tree: &str) -> Result<Layout> {
-    let (dtype, text) = word.split_once(':').context("no type")?;
-    let (rows, segment) = place(text)?;
-    let tree = tree_in(alloc, tree)?;
+    let (dtype, text) = word.split_once(':').unwrap_or((word, ""));
+    let (rows, segment) = place(text);
     let encodings = encodings(alloc)?;
-    let dtype = dtype_in(dtype)?;
+    let tree = tree_in(alloc, tree)?;
+    let dtype = dtype_in(dtype);
     Ok(FlatLayout::new_with_metadata(rows, dtype, segment, encodings, tree).into_layout())
 }
 
@@ -64,10 +64,20 @@ pub fn leaf(alloc: Global, word: &str) -> Result<Layout> {
 
 pub fn leaves(alloc: Global, text: &str) -> Result<Vec<Layout>> {
     let mut leaves = Vec::new(alloc);
-    for word in text.split_whitespace() {
-        push(&mut leaves, leaf(alloc, word)?)?;
+    match push_leaves(alloc, &mut leaves, text) {
+        Ok(()) => Ok(leaves),
+        Err(error) => {
+            drop(leaves);
+            Err(error)
+        }
     }
-    Ok(leaves)
+}
+
+fn push_leaves(alloc: Global, leaves: &mut Vec<Layout>, text: &str) -> Result<()> {
+    for word in text.split_whitespace() {
+        push(leaves, leaf(alloc, word)?)?;
+    }
+    Ok(())
 }
 
 /// Puts the item behind the others.

@@ -1,7 +1,7 @@
 //! What layouts are built in.
 
 use crate::given::{encodings, push};
-use anyhow::{Context, Error, Result};
+use anyhow::{Context, Result, bail};
 use std::alloc::{AllocError, Global};
 use vx_layout::{LayoutBuildContext, LayoutContext, LayoutEncoding, LayoutSession, Scope, Session};
 use vx_model::{ArrayContext, Text};
@@ -20,10 +20,17 @@ fn texts(alloc: Global, words: &str) -> Result<Vec<Text>, AllocError> {
 /// The ids of all kinds.
 pub fn ids(alloc: Global) -> Result<LayoutContext> {
     let ids = texts(alloc, IDS)?;
-    if !LayoutContext::is_context(alloc, &ids)? {
-        return Err(Error::msg("an id is there twice"));
+    match LayoutContext::is_context(alloc, &ids) {
+        Ok(true) => Ok(LayoutContext::new(ids)),
+        Ok(false) => {
+            drop(ids);
+            bail!("an id is there twice")
+        }
+        Err(error) => {
+            drop(ids);
+            Err(error.into())
+        }
     }
-    Ok(LayoutContext::new(ids))
 }
 
 /// All kinds and the maximum.
@@ -61,5 +68,7 @@ pub fn build_context(alloc: Global) -> Result<LayoutBuildContext> {
 /// The kind that has the id.
 pub fn kind_in(alloc: Global, id: &str) -> Result<LayoutEncoding> {
     let layouts = LayoutSession::default(alloc)?;
-    layouts.registry().find(id).context("no such kind")
+    let kind = layouts.registry().find(id);
+    drop(layouts);
+    kind.context("no such kind")
 }

@@ -1,7 +1,12 @@
-//! What the programs of cases have in common: lines, and their parts.
+//! What the programs of cases have in common: lines, their parts, and the text of their answers.
 #![tactic(auto)]
 
+mod answer;
+mod cases;
+
+pub use answer::Answer;
 use anyhow::Context;
+pub use cases::{Cases, answers};
 use std::alloc::{AllocError, Global};
 
 /// Whether the line is a case: it isn't empty and doesn't begin with `#`.
@@ -17,6 +22,16 @@ pub fn cut(text: &str) -> (&str, &str) {
 /// The first part, and the parts behind it.
 pub fn parts(text: &str) -> anyhow::Result<(&str, &str)> {
     text.split_once(" / ").context("a part is missing")
+}
+
+/// The first part, and the parts behind it; nothing behind where it is one part alone.
+pub fn halves(text: &str) -> (&str, &str) {
+    text.split_once(" / ").unwrap_or((text, ""))
+}
+
+/// The number that the text is; 0 where it is none.
+pub fn number(text: &str) -> u64 {
+    text.parse::<u64>().unwrap_or(0)
 }
 
 /// The value in a box. One that is wide and lives beside a `?` makes a proof long, and its box doesn't.

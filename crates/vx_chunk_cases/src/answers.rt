@@ -1,78 +1,100 @@
-//! What each word prints.
+//! What each word prints: the answer, or why there is none.
 
 use crate::given::{bytes_in, chunk_in, dtype_in};
-use crate::kept::kept_answer;
-use crate::own::own;
-use anyhow::{Context, Error};
+use crate::shown::{push_head, push_made};
+use crate::{kept, own};
 use serde_json::Value;
 use std::alloc::Global;
-use vx_case_lines::boxed;
-use vx_segment_reader::{buffer_lengths, tree_buffer_lengths};
+use vx_case_lines::Answer;
+use vx_chunk::Chunk;
+use vx_model::DType;
+use vx_segment_reader::{DecodeError, buffer_lengths, tree_buffer_lengths};
 
-pub(crate) fn answer(alloc: Global, word: &str, given: &Value) -> anyhow::Result<String> {
+pub(crate) fn tell(alloc: Global, answer: &mut Answer, word: &str, given: &Value) {
     match word {
-        "nullable" => nullable(alloc, given),
-        "storage" => storage(alloc, given),
-        "lengths" => lengths(alloc, given),
-        "tree" => tree_lengths(alloc, given),
-        "rows" | "lists" => agreed(alloc, word, given),
-        "cells" => cells(alloc, given),
-        "fields" => fields(alloc, given),
-        _ => kept(alloc, word, given),
+        "nullable" | "storage" => tell_type(alloc, answer, word, given),
+        "lengths" | "tree" => tell_lengths(alloc, answer, word, given),
+        _ => tell_chunk(alloc, answer, word, given),
     }
 }
 
-fn nullable(alloc: Global, given: &Value) -> anyhow::Result<String> {
-    let dtype = dtype_in(alloc, given)?;
-    let nullable = boxed(alloc, dtype.as_nullable()?)?;
-    Ok(format!(in alloc; "{}", *nullable)?)
+fn tell_type(alloc: Global, answer: &mut Answer, word: &str, given: &Value) {
+    match dtype_in(alloc, given) {
+        Ok(dtype) => {
+            tell_type_of(answer, word, &dtype);
+            drop(dtype);
+        }
+        Err(error) => answer.push(error),
+    }
 }
 
-fn storage(alloc: Global, given: &Value) -> anyhow::Result<String> {
-    let dtype = dtype_in(alloc, given)?;
-    let storage = dtype.as_extension().context("no extension")?;
-    Ok(format!(in alloc; "{storage}")?)
+fn tell_type_of(answer: &mut Answer, word: &str, dtype: &DType) {
+    if word == "nullable" {
+        answer.push_given(dtype.as_nullable());
+    } else {
+        match dtype.as_extension() {
+            Some(storage) => answer.push(storage),
+            None => answer.push_str("no extension"),
+        }
+    }
 }
 
-fn lengths(alloc: Global, given: &Value) -> anyhow::Result<String> {
-    let lengths = buffer_lengths(alloc, &bytes_in(alloc, given)?)?;
-    Ok(format!(in alloc; "{lengths:?}")?)
+fn tell_lengths(alloc: Global, answer: &mut Answer, word: &str, given: &Value) {
+    match bytes_in(alloc, given) {
+        Ok(bytes) => {
+            push_lengths(answer, lengths_of(alloc, word, &bytes));
+            drop(bytes);
+        }
+        Err(error) => answer.push(error),
+    }
 }
 
-fn tree_lengths(alloc: Global, given: &Value) -> anyhow::Result<String> {
-    let lengths = tree_buffer_lengths(alloc, &bytes_in(alloc, given)?)?;
-    Ok(format!(in alloc; "{lengths:?}")?)
+fn lengths_of(alloc: Global, word: &str, bytes: &[u8]) -> Result<Vec<u64>, DecodeError> {
+    if word == "tree" {
+        tree_buffer_lengths(alloc, bytes)
+    } else {
+        buffer_lengths(alloc, bytes)
+    }
 }
 
-/// What calls give that borrow the chunk.
-fn kept(alloc: Global, word: &str, given: &Value) -> anyhow::Result<String> {
-    let chunk = boxed(alloc, chunk_in(alloc, given)?)?;
-    chunk.whole();
-    kept_answer(alloc, word, &chunk)
+fn push_lengths(answer: &mut Answer, lengths: Result<Vec<u64>, DecodeError>) {
+    match lengths {
+        Ok(lengths) => answer.push_debug(lengths),
+        Err(error) => answer.push(error),
+    }
+}
+
+fn tell_chunk(alloc: Global, answer: &mut Answer, word: &str, given: &Value) {
+    match chunk_in(alloc, given) {
+        Ok(chunk) => {
+            chunk.whole();
+            tell_of(alloc, answer, word, &chunk, given);
+            drop(chunk);
+        }
+        Err(error) => answer.push(error),
+    }
+}
+
+fn tell_of(alloc: Global, answer: &mut Answer, word: &str, chunk: &Chunk, given: &Value) {
+    match word {
+        "rows" | "lists" => tell_agreed(alloc, answer, word, chunk, given),
+        "cells" => {
+            push_head(answer, chunk);
+            tell_agreed(alloc, answer, word, chunk, given);
+        }
+        "fields" => {
+            tell_agreed(alloc, answer, word, chunk, given);
+            push_made(alloc, answer, kept::validity(alloc, chunk));
+        }
+        _ => kept::tell(alloc, answer, word, chunk),
+    }
 }
 
 /// What the call that borrows the chunk gives, where the one that consumes it gives the same.
-fn agreed(alloc: Global, word: &str, given: &Value) -> anyhow::Result<String> {
-    let kept = kept(alloc, word, given)?;
-    let own = own(alloc, word, given)?;
-    if own.as_str() != kept.as_str() {
-        return Err(Error::msg("the two calls differ"));
-    }
-    Ok(own)
-}
-
-/// The encoding, the type and the cells.
-fn cells(alloc: Global, given: &Value) -> anyhow::Result<String> {
-    let mut text = kept(alloc, "head", given)?;
-    let cells = agreed(alloc, "cells", given)?;
-    text.push_str(&cells)?;
-    Ok(text)
-}
-
-/// The fields, and which rows are valid.
-fn fields(alloc: Global, given: &Value) -> anyhow::Result<String> {
-    let mut text = agreed(alloc, "fields", given)?;
-    let valid = kept(alloc, "valid", given)?;
-    text.push_str(&valid)?;
-    Ok(text)
+fn tell_agreed(alloc: Global, answer: &mut Answer, word: &str, chunk: &Chunk, given: &Value) {
+    let mut borrowed = Answer::new(alloc);
+    kept::tell(alloc, &mut borrowed, word, chunk);
+    let mut owned = Answer::new(alloc);
+    own::tell(alloc, &mut owned, word, given);
+    answer.push_agreed(borrowed, owned);
 }

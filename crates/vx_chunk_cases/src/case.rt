@@ -1,35 +1,30 @@
 //! A case and its answers.
 
-use crate::answers::answer;
-use anyhow::Context;
+use crate::answers;
 use serde_json::Value;
-use std::alloc::{AllocError, Global};
-use vx_case_lines::{boxed, is_case};
+use std::alloc::Global;
+use vx_case_lines::{Answer, Cases};
 
-/// A line for each word of the case.
-pub(crate) fn answers(alloc: Global, line: &str) -> anyhow::Result<String> {
-    if !is_case(line) {
-        return Ok(String::new(alloc));
+pub(crate) struct ChunkCases;
+
+impl Cases for ChunkCases {
+    /// A line for each word of the case.
+    fn tell(alloc: Global, answer: &mut Answer, name: &str, rest: &str) {
+        let (words, object) = rest.split_once(" = ").unwrap_or((rest, ""));
+        match Value::from_str(alloc, object) {
+            Ok(given) => {
+                tell_words(alloc, answer, name, words, &given);
+                drop(given);
+            }
+            Err(error) => answer.push_refusal(name, error),
+        }
     }
-    let (head, object) = line.split_once(" = ").context("a case without an object")?;
-    let (name, words) = head.split_once(' ').context("a case without a word")?;
-    let given = boxed(alloc, Value::from_str(alloc, object)?)?;
-    Ok(answers_to(alloc, name, words, &given)?)
 }
 
-fn answers_to(alloc: Global, name: &str, words: &str, given: &Value) -> Result<String, AllocError> {
-    let mut out = String::new(alloc);
+fn tell_words(alloc: Global, answer: &mut Answer, name: &str, words: &str, given: &Value) {
     for word in words.split_whitespace() {
-        let text = answer_or_refusal(alloc, word, given)?;
-        write!(out, "{name} {word}: {text}\n")?;
-    }
-    Ok(out)
-}
-
-/// The answer, or why there is none.
-fn answer_or_refusal(alloc: Global, word: &str, given: &Value) -> Result<String, AllocError> {
-    match answer(alloc, word, given) {
-        Ok(text) => Ok(text),
-        Err(error) => format!(in alloc; "{error}"),
+        write!(answer, "{name} {word}: ");
+        answers::tell(alloc, answer, word, given);
+        answer.push_str("\n");
     }
 }

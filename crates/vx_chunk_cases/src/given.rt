@@ -3,15 +3,14 @@
 use anyhow::Context;
 use serde_json::Value;
 use std::alloc::Global;
-use vx_case_lines::boxed;
 use vx_chunk::Chunk;
 use vx_chunk_json::{read_batch, read_type};
 use vx_model::{ArrayContext, DType, EncodingId};
 use vx_segment_reader::decode_segment;
 
-pub(crate) fn dtype_in(alloc: Global, given: &Value) -> anyhow::Result<Box<DType>> {
+pub(crate) fn dtype_in(alloc: Global, given: &Value) -> anyhow::Result<DType> {
     let value = given.get("schema").context("no schema")?;
-    Ok(boxed(alloc, read_type(alloc, value)?)?)
+    Ok(read_type(alloc, value)?)
 }
 
 pub(crate) fn bytes_in(alloc: Global, given: &Value) -> anyhow::Result<Vec<u8>> {
@@ -23,9 +22,15 @@ pub(crate) fn bytes_in(alloc: Global, given: &Value) -> anyhow::Result<Vec<u8>> 
 /// The batch, or what the bytes are read as.
 pub(crate) fn chunk_in(alloc: Global, given: &Value) -> anyhow::Result<Chunk> {
     let dtype = dtype_in(alloc, given)?;
+    let chunk = chunk_of(alloc, given, &dtype);
+    drop(dtype);
+    chunk
+}
+
+fn chunk_of(alloc: Global, given: &Value, dtype: &DType) -> anyhow::Result<Chunk> {
     match given.get("batch") {
-        Some(batch) => Ok(read_batch(alloc, &dtype, batch)?),
-        None => decoded(alloc, given, &dtype),
+        Some(batch) => Ok(read_batch(alloc, dtype, batch)?),
+        None => decoded(alloc, given, dtype),
     }
 }
 

@@ -1,32 +1,26 @@
 //! What calls give that borrow a chunk.
 
 use crate::given::every_encoding;
-use crate::shown::{cells_of, head, list_text, shown, shown_columns, shown_values};
-use anyhow::{Context, Error, bail};
+use crate::shown::{push_cells_of, push_chunks, push_list, push_made, push_values};
+use anyhow::{Context, bail};
 use std::alloc::{AllocError, Global};
-use vx_case_lines::boxed;
+use vx_case_lines::Answer;
+use vx_chunk::Chunk;
 use vx_chunk::conditions::are_of_type;
-use vx_chunk::{Chunk, ChunkError};
-use vx_model::is_row_value;
+use vx_model::{DType, Value, is_row_value};
 use vx_segment_writer::encode_segment;
 
-pub(crate) fn kept_answer(alloc: Global, word: &str, chunk: &Chunk) -> anyhow::Result<String> {
+pub(crate) fn tell(alloc: Global, answer: &mut Answer, word: &str, chunk: &Chunk) {
     match word {
-        "rows" => rows(alloc, chunk),
-        "head" => Ok(head(alloc, chunk)?),
-        "cells" => cells_of(alloc, chunk),
-        "fields" => fields(alloc, chunk),
-        "lists" => lists(alloc, chunk),
-        "sizes" => Ok(sizes(alloc, chunk)?),
-        "segment" => segment(alloc, chunk, true),
-        "dense" => segment(alloc, chunk, false),
-        _ => shown_made(alloc, word, chunk),
+        "rows" => push_rows(alloc, answer, chunk),
+        "cells" => push_cells_of(alloc, answer, chunk),
+        "fields" => push_fields(alloc, answer, chunk),
+        "lists" => push_lists(alloc, answer, chunk),
+        "sizes" => push_sizes(answer, chunk),
+        "segment" => answer.push_given(segment(alloc, chunk, true)),
+        "dense" => answer.push_given(segment(alloc, chunk, false)),
+        _ => push_made(alloc, answer, made(alloc, word, chunk)),
     }
-}
-
-fn shown_made(alloc: Global, word: &str, chunk: &Chunk) -> anyhow::Result<String> {
-    let made = boxed(alloc, made(alloc, word, chunk)?)?;
-    shown(alloc, &made)
 }
 
 /// The chunk that is made of the chunk.
@@ -34,7 +28,6 @@ fn made(alloc: Global, word: &str, chunk: &Chunk) -> anyhow::Result<Chunk> {
     match word {
         "canon" => Ok(chunk.canon(alloc)?),
         "twice" => twice(alloc, chunk),
-        "valid" => validity(alloc, chunk),
         _ => slice(alloc, chunk, word),
     }
 }
@@ -44,28 +37,34 @@ fn twice(alloc: Global, chunk: &Chunk) -> anyhow::Result<Chunk> {
     let parts = copies(alloc, chunk)?;
     let dtype = chunk.dtype();
     if !are_of_type(dtype, &parts) {
-        return Err(Error::msg("not of one type"));
+        drop(parts);
+        bail!("not of one type");
     }
-    Ok(Chunk::concat(alloc, dtype.clone()?, parts)?)
+    match dtype.clone() {
+        Ok(dtype) => Ok(Chunk::concat(alloc, dtype, parts)?),
+        Err(error) => {
+            drop(parts);
+            Err(error.into())
+        }
+    }
 }
 
 /// Two copies.
 fn copies(alloc: Global, chunk: &Chunk) -> Result<Vec<Chunk>, AllocError> {
-    let mut parts = Vec::new(alloc);
-    push_copy(&mut parts, chunk)?;
-    push_copy(&mut parts, chunk)?;
-    Ok(parts)
-}
-
-fn push_copy(parts: &mut Vec<Chunk>, chunk: &Chunk) -> Result<(), AllocError> {
-    parts.push(chunk.clone()?)?;
-    Ok(())
+    let first = chunk.clone()?;
+    match chunk.clone() {
+        Ok(second) => Ok(vec![in alloc; first, second]?),
+        Err(error) => {
+            drop(first);
+            Err(error)
+        }
+    }
 }
 
 /// Which rows of a struct are valid.
-fn validity(alloc: Global, chunk: &Chunk) -> anyhow::Result<Chunk> {
+pub(crate) fn validity(alloc: Global, chunk: &Chunk) -> anyhow::Result<Chunk> {
     if !chunk.dtype().is_struct() {
-        return Err(Error::msg("no struct"));
+        bail!("no struct");
     }
     Ok(chunk.validity(alloc)?)
 }
@@ -84,48 +83,50 @@ fn slice_of(alloc: Global, chunk: &Chunk, from: u64, to: u64) -> anyhow::Result<
 }
 
 /// The rows, each of which is one of the type.
-fn rows(alloc: Global, chunk: &Chunk) -> anyhow::Result<String> {
-    let rows = chunk.rows_of(alloc)?;
-    for row in &rows {
-        if !is_row_value(chunk.dtype(), row) {
-            return Err(Error::msg("a row of another type"));
+fn push_rows(alloc: Global, answer: &mut Answer, chunk: &Chunk) {
+    match chunk.rows_of(alloc) {
+        Ok(rows) => {
+            push_fitting(alloc, answer, chunk.dtype(), &rows);
+            drop(rows);
+        }
+        Err(error) => answer.push(error),
+    }
+}
+
+fn push_fitting(alloc: Global, answer: &mut Answer, dtype: &DType, rows: &[Value]) {
+    for row in rows {
+        if !is_row_value(dtype, row) {
+            answer.push_str("a row of another type");
         }
     }
-    Ok(shown_values(alloc, &rows)?)
+    push_values(alloc, answer, rows);
 }
 
 /// A struct's fields.
-fn fields(alloc: Global, chunk: &Chunk) -> anyhow::Result<String> {
-    if !chunk.dtype().is_struct() {
-        return Err(Error::msg("no struct"));
+fn push_fields(alloc: Global, answer: &mut Answer, chunk: &Chunk) {
+    if chunk.dtype().is_struct() {
+        push_chunks(alloc, answer, chunk.fields(alloc));
+    } else {
+        answer.push_str("no struct");
     }
-    let columns = chunk.fields(alloc)?;
-    shown_columns(alloc, &columns)
 }
 
 /// A list's elements, offsets and flags.
-fn lists(alloc: Global, chunk: &Chunk) -> anyhow::Result<String> {
-    if !chunk.dtype().is_list() {
-        return Err(Error::msg("no list"));
+fn push_lists(alloc: Global, answer: &mut Answer, chunk: &Chunk) {
+    if chunk.dtype().is_list() {
+        push_list(alloc, answer, chunk.list_parts(alloc));
+    } else {
+        answer.push_str("no list");
     }
-    list_text(alloc, chunk.list_parts(alloc)?)
 }
 
 /// How many rows, what is held, and what all rows take.
-fn sizes(alloc: Global, chunk: &Chunk) -> Result<String, AllocError> {
-    let mut out = format!(in alloc; "{} rows, held ", chunk.len())?;
-    push_size(&mut out, chunk.nbytes())?;
-    out.push_str(", all rows ")?;
-    push_size(&mut out, chunk.row_size())?;
-    Ok(out)
-}
-
-/// The size, or the one that is too large.
-fn push_size(out: &mut String, size: Result<u64, ChunkError>) -> Result<(), AllocError> {
-    match size {
-        Ok(size) => write!(out, "{size}"),
-        Err(error) => write!(out, "{error}"),
-    }
+fn push_sizes(answer: &mut Answer, chunk: &Chunk) {
+    answer.push(chunk.len());
+    answer.push_str(" rows, held ");
+    answer.push_given(chunk.nbytes());
+    answer.push_str(", all rows ");
+    answer.push_given(chunk.row_size());
 }
 
 fn segment(alloc: Global, chunk: &Chunk, padding: bool) -> anyhow::Result<String> {

@@ -28,14 +28,14 @@ mod kept;
 mod own;
 mod shown;
 
+use crate::case::ChunkCases;
 use std::io;
+use vx_case_lines::answers;
 
 fn main(rt: HostRuntime) -> anyhow::Result<()> {
     let alloc = rt.alloc();
     let cases = io::read_to_string(alloc, rt.stdin())?;
-    for line in cases.lines() {
-        let text = case::answers(alloc, line)?;
-        print!(rt; "{text}")?;
-    }
+    let text = answers::<ChunkCases>(alloc, &cases)?;
+    print!(rt; "{text}")?;
     Ok(())
 }

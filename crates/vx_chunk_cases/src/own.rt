@@ -1,44 +1,53 @@
 //! What calls give that consume a chunk.
 
 use crate::given::chunk_in;
-use crate::shown::{list_text, shown_cells, shown_columns, shown_values};
-use anyhow::Error;
-use serde_json::Value;
+use crate::shown::{push_chunks, push_list, push_own_cells, push_values};
+use serde_json::Value as Json;
 use std::alloc::Global;
-use vx_case_lines::boxed;
+use vx_case_lines::Answer;
+use vx_chunk::{Chunk, ChunkError};
+use vx_model::Value;
 
-pub(crate) fn own(alloc: Global, word: &str, given: &Value) -> anyhow::Result<String> {
+pub(crate) fn tell(alloc: Global, answer: &mut Answer, word: &str, given: &Json) {
+    match chunk_in(alloc, given) {
+        Ok(chunk) => tell_of(alloc, answer, word, chunk),
+        Err(error) => answer.push(error),
+    }
+}
+
+fn tell_of(alloc: Global, answer: &mut Answer, word: &str, chunk: Chunk) {
     match word {
-        "rows" => rows(alloc, given),
-        "cells" => cells(alloc, given),
-        "fields" => fields(alloc, given),
-        _ => lists(alloc, given),
+        "rows" => push_rows(alloc, answer, chunk.into_rows(alloc)),
+        "cells" => push_own_cells(alloc, answer, chunk.into_cells(alloc)),
+        "fields" => push_fields(alloc, answer, chunk),
+        _ => push_lists(alloc, answer, chunk),
     }
 }
 
-fn rows(alloc: Global, given: &Value) -> anyhow::Result<String> {
-    let rows = chunk_in(alloc, given)?.into_rows(alloc)?;
-    Ok(shown_values(alloc, &rows)?)
-}
-
-fn cells(alloc: Global, given: &Value) -> anyhow::Result<String> {
-    let cells = chunk_in(alloc, given)?.into_cells(alloc)?;
-    Ok(shown_cells(alloc, &cells)?)
-}
-
-fn fields(alloc: Global, given: &Value) -> anyhow::Result<String> {
-    let chunk = boxed(alloc, chunk_in(alloc, given)?)?;
-    if !chunk.dtype().is_struct() {
-        return Err(Error::msg("no struct"));
+fn push_rows(alloc: Global, answer: &mut Answer, rows: Result<Vec<Value>, ChunkError>) {
+    match rows {
+        Ok(rows) => {
+            push_values(alloc, answer, &rows);
+            drop(rows);
+        }
+        Err(error) => answer.push(error),
     }
-    let columns = Box::into_inner(chunk).into_fields(alloc)?;
-    shown_columns(alloc, &columns)
 }
 
-fn lists(alloc: Global, given: &Value) -> anyhow::Result<String> {
-    let chunk = boxed(alloc, chunk_in(alloc, given)?)?;
-    if !chunk.dtype().is_list() {
-        return Err(Error::msg("no list"));
+fn push_fields(alloc: Global, answer: &mut Answer, chunk: Chunk) {
+    if chunk.dtype().is_struct() {
+        push_chunks(alloc, answer, chunk.into_fields(alloc));
+    } else {
+        drop(chunk);
+        answer.push_str("no struct");
     }
-    list_text(alloc, Box::into_inner(chunk).into_list_parts(alloc)?)
+}
+
+fn push_lists(alloc: Global, answer: &mut Answer, chunk: Chunk) {
+    if chunk.dtype().is_list() {
+        push_list(alloc, answer, chunk.into_list_parts(alloc));
+    } else {
+        drop(chunk);
+        answer.push_str("no list");
+    }
 }

@@ -3,145 +3,170 @@
 
 use serde_json::Value as Json;
 use std::alloc::{AllocError, Global};
-use vx_case_lines::boxed;
-use vx_chunk::Chunk;
+use vx_case_lines::Answer;
+use vx_chunk::{Chunk, ChunkError};
 use vx_model::{Cell, Value};
 
 /// Values as the program's report shows a row that is a list.
 #[cycle(values)]
-pub(crate) fn push_values(
-    alloc: Global,
-    out: &mut String,
-    values: &[Value],
-) -> Result<(), AllocError> {
-    out.push_str("[")?;
+pub(crate) fn push_values(alloc: Global, answer: &mut Answer, values: &[Value]) {
+    answer.push_str("[");
     for i in 0..values.len() {
-        push_comma(out, i > 0)?;
-        push_value(alloc, out, &values[i])?;
+        push_comma(answer, i > 0);
+        push_value(alloc, answer, &values[i]);
     }
-    out.push_str("]")
+    answer.push_str("]");
 }
 
 #[cycle(values)]
-fn push_value(alloc: Global, out: &mut String, value: &Value) -> Result<(), AllocError> {
+fn push_value(alloc: Global, answer: &mut Answer, value: &Value) {
     match value {
-        Value::Null => out.push_str("null"),
-        Value::Bool(b) => push_bool(out, *b),
-        Value::Int(n) => push_integer(out, *n),
-        Value::Utf8(text) => push_quoted(alloc, out, text.as_str()),
-        Value::Binary(bytes) => push_hex(alloc, out, bytes.as_slice()),
-        Value::List(values) | Value::Struct(values) => push_values(alloc, out, values),
+        Value::Null => answer.push_str("null"),
+        Value::Bool(b) => answer.push(*b),
+        Value::Int(n) => answer.push(*n),
+        Value::Utf8(text) => answer.push_given(quoted(alloc, text.as_str())),
+        Value::Binary(bytes) => push_hex(alloc, answer, bytes.as_slice()),
+        Value::List(values) | Value::Struct(values) => push_values(alloc, answer, values),
     }
 }
 
 #[cycle(cells)]
-fn push_cells(alloc: Global, out: &mut String, cells: &[Cell]) -> Result<(), AllocError> {
+fn push_cells(alloc: Global, answer: &mut Answer, cells: &[Cell]) {
     for i in 0..cells.len() {
-        push_comma(out, i > 0)?;
-        push_cell(alloc, out, &cells[i])?;
+        push_comma(answer, i > 0);
+        push_cell(alloc, answer, &cells[i]);
     }
-    Ok(())
 }
 
 #[cycle(cells)]
-fn push_cell(alloc: Global, out: &mut String, cell: &Cell) -> Result<(), AllocError> {
+fn push_cell(alloc: Global, answer: &mut Answer, cell: &Cell) {
     match cell {
-        Cell::Null => out.push_str("null"),
-        Cell::Bool(b) => push_bool(out, *b),
-        Cell::Int(n) => push_integer(out, *n),
-        Cell::Utf8(text) => push_quoted(alloc, out, text.as_str()),
-        Cell::Binary(bytes) => push_hex(alloc, out, bytes.as_slice()),
+        Cell::Null => answer.push_str("null"),
+        Cell::Bool(b) => answer.push(*b),
+        Cell::Int(n) => answer.push(*n),
+        Cell::Utf8(text) => answer.push_given(quoted(alloc, text.as_str())),
+        Cell::Binary(bytes) => push_hex(alloc, answer, bytes.as_slice()),
         Cell::List(valid, cells) => {
-            out.push_str(if *valid { "[" } else { "![" })?;
-            push_cells(alloc, out, cells)?;
-            out.push_str("]")
+            answer.push_str(if *valid { "[" } else { "![" });
+            push_cells(alloc, answer, cells);
+            answer.push_str("]");
         }
         Cell::Struct(valid, cells) => {
-            out.push_str(if *valid { "{" } else { "!{" })?;
-            push_cells(alloc, out, cells)?;
-            out.push_str("}")
+            answer.push_str(if *valid { "{" } else { "!{" });
+            push_cells(alloc, answer, cells);
+            answer.push_str("}");
         }
     }
 }
 
-fn push_comma(out: &mut String, later: bool) -> Result<(), AllocError> {
+fn push_comma(answer: &mut Answer, later: bool) {
     if later {
-        out.push_str(",")?;
+        answer.push_str(",");
     }
-    Ok(())
 }
 
-fn push_bool(out: &mut String, flag: bool) -> Result<(), AllocError> {
-    out.push_str(if flag { "true" } else { "false" })
+fn quoted(alloc: Global, text: &str) -> Result<String, AllocError> {
+    let json = Json::String(String::from_str(alloc, text)?);
+    let text = json.to_string(alloc);
+    drop(json);
+    text
 }
 
-fn push_integer(out: &mut String, number: i128) -> Result<(), AllocError> {
-    write!(out, "{number}")
-}
-
-fn push_quoted(alloc: Global, out: &mut String, text: &str) -> Result<(), AllocError> {
-    let json = boxed(alloc, Json::String(String::from_str(alloc, text)?))?;
-    out.push_str(&json.to_string(alloc)?)
-}
-
-fn push_hex(alloc: Global, out: &mut String, bytes: &[u8]) -> Result<(), AllocError> {
-    let text = hex::encode(alloc, bytes)?;
-    write!(out, "\"{text}\"")
-}
-
-/// Values as they are shown in a text of their own.
-pub(crate) fn shown_values(alloc: Global, values: &[Value]) -> Result<String, AllocError> {
-    let mut out = String::new(alloc);
-    push_values(alloc, &mut out, values)?;
-    Ok(out)
+fn push_hex(alloc: Global, answer: &mut Answer, bytes: &[u8]) {
+    answer.push_str("\"");
+    answer.push_given(hex::encode(alloc, bytes));
+    answer.push_str("\"");
 }
 
 /// The cells in square brackets.
-pub(crate) fn shown_cells(alloc: Global, cells: &[Cell]) -> Result<String, AllocError> {
-    let mut out = String::from_str(alloc, "[")?;
-    push_cells(alloc, &mut out, cells)?;
-    out.push_str("]")?;
-    Ok(out)
+fn push_listed(alloc: Global, answer: &mut Answer, cells: &[Cell]) {
+    answer.push_str("[");
+    push_cells(alloc, answer, cells);
+    answer.push_str("]");
+}
+
+pub(crate) fn push_own_cells(
+    alloc: Global,
+    answer: &mut Answer,
+    cells: Result<Vec<Cell>, ChunkError>,
+) {
+    match cells {
+        Ok(cells) => {
+            push_listed(alloc, answer, &cells);
+            drop(cells);
+        }
+        Err(error) => answer.push(error),
+    }
+}
+
+pub(crate) fn push_cells_of(alloc: Global, answer: &mut Answer, chunk: &Chunk) {
+    match chunk.as_cells() {
+        Some(cells) => push_listed(alloc, answer, cells),
+        None => push_own_cells(alloc, answer, chunk.cells(alloc)),
+    }
 }
 
 /// What stands before a chunk's cells: its encoding and its type.
-pub(crate) fn head(alloc: Global, chunk: &Chunk) -> Result<String, AllocError> {
-    let dtype = chunk.dtype();
-    format!(in alloc; "{} {dtype} ", chunk.encoding().id())
-}
-
-pub(crate) fn cells_of(alloc: Global, chunk: &Chunk) -> anyhow::Result<String> {
-    if let Some(cells) = chunk.as_cells() {
-        return Ok(shown_cells(alloc, cells)?);
-    }
-    let cells = chunk.cells(alloc)?;
-    Ok(shown_cells(alloc, &cells)?)
+pub(crate) fn push_head(answer: &mut Answer, chunk: &Chunk) {
+    answer.push_str(chunk.encoding().id());
+    answer.push_str(" ");
+    answer.push(chunk.dtype());
+    answer.push_str(" ");
 }
 
 /// The chunk's encoding, its type and its cells.
-pub(crate) fn shown(alloc: Global, chunk: &Chunk) -> anyhow::Result<String> {
-    let mut text = head(alloc, chunk)?;
-    text.push_str(&cells_of(alloc, chunk)?)?;
-    Ok(text)
+fn push_chunk(alloc: Global, answer: &mut Answer, chunk: &Chunk) {
+    push_head(answer, chunk);
+    push_cells_of(alloc, answer, chunk);
 }
 
-/// The columns, a bar behind each.
-pub(crate) fn shown_columns(alloc: Global, chunks: &[Chunk]) -> anyhow::Result<String> {
-    let mut text = String::new(alloc);
-    for chunk in chunks {
-        text.push_str(&shown(alloc, chunk)?)?;
-        text.push_str(" | ")?;
+pub(crate) fn push_made(alloc: Global, answer: &mut Answer, made: anyhow::Result<Chunk>) {
+    match made {
+        Ok(chunk) => {
+            push_chunk(alloc, answer, &chunk);
+            drop(chunk);
+        }
+        Err(error) => answer.push(error),
     }
-    Ok(text)
+}
+
+/// The chunks, a bar behind each.
+pub(crate) fn push_chunks(
+    alloc: Global,
+    answer: &mut Answer,
+    chunks: Result<Vec<Chunk>, ChunkError>,
+) {
+    match chunks {
+        Ok(chunks) => {
+            push_each(alloc, answer, &chunks);
+            drop(chunks);
+        }
+        Err(error) => answer.push(error),
+    }
+}
+
+fn push_each(alloc: Global, answer: &mut Answer, chunks: &[Chunk]) {
+    for chunk in chunks {
+        push_chunk(alloc, answer, chunk);
+        answer.push_str(" | ");
+    }
 }
 
 /// A list's elements, offsets and flags.
-pub(crate) fn list_text(
+pub(crate) fn push_list(
     alloc: Global,
-    parts: (Chunk, Vec<u64>, Vec<bool>),
-) -> anyhow::Result<String> {
-    let (elements, offsets, valid) = parts;
-    let elements = boxed(alloc, elements)?;
-    let elements = shown(alloc, &elements)?;
-    Ok(format!(in alloc; "{elements} | {offsets:?} | {valid:?}")?)
+    answer: &mut Answer,
+    parts: Result<(Chunk, Vec<u64>, Vec<bool>), ChunkError>,
+) {
+    match parts {
+        Ok((elements, offsets, valid)) => {
+            push_chunk(alloc, answer, &elements);
+            drop(elements);
+            answer.push_str(" | ");
+            answer.push_debug(offsets);
+            answer.push_str(" | ");
+            answer.push_debug(valid);
+        }
+        Err(error) => answer.push(error),
+    }
 }

@@ -8,8 +8,17 @@ ghost use Rattle.vx_model.specs.TreeView.{val};
 use crate::filters::{Partial, filter};
 use std::alloc::{AllocError, Global};
 use vx_bloom::{BloomFilter, BloomOptions, Unsupported};
-use vx_case_lines::cut;
+use vx_case_lines::{Answer, cut};
 use vx_model::{DType, Nullability, Value};
+
+/// Of the words `accumulate`, `insert_list` and `state`.
+pub(crate) fn tell(alloc: Global, answer: &mut Answer, word: &str, given: &str) {
+    match word {
+        "accumulate" => push_accumulated(alloc, answer, filter_of(alloc, given)),
+        "insert_list" => push_inserted(answer, inserted(alloc, given == "null")),
+        _ => push_state(answer, state(alloc, given == "list")),
+    }
+}
 
 /// A boolean, or null.
 fn value(word: &str) -> Value
@@ -33,11 +42,6 @@ fn insert_pair(partial: &mut Partial, pair: &str) -> Result<(), Unsupported> {
     inserted
 }
 
-pub(crate) fn accumulated(alloc: Global, given: &str) -> anyhow::Result<String> {
-    let partial = filter_of(alloc, given)?;
-    told(alloc, &partial)
-}
-
 /// The filter of the pairs.
 fn filter_of(alloc: Global, given: &str) -> anyhow::Result<Partial> {
     let mut partial = BloomFilter.empty_partial(alloc, &BloomOptions::default())?;
@@ -47,13 +51,32 @@ fn filter_of(alloc: Global, given: &str) -> anyhow::Result<Partial> {
     Ok(partial)
 }
 
+fn push_accumulated(alloc: Global, answer: &mut Answer, partial: anyhow::Result<Partial>) {
+    match partial {
+        Ok(partial) => {
+            push_values(answer, &partial, filter(alloc, "256"));
+            drop(partial);
+        }
+        Err(error) => answer.push(error),
+    }
+}
+
 /// Whether the filter is empty, and which of the three values it contains.
-fn told(alloc: Global, partial: &Partial) -> anyhow::Result<String> {
-    let empty = *partial == filter(alloc, "256")?;
-    let one = contains(partial, "true")?;
-    let other = contains(partial, "false")?;
-    let null = contains(partial, "null")?;
-    Ok(format!(in alloc; "empty {empty}, true {one}, false {other}, null {null}")?)
+fn push_values(answer: &mut Answer, partial: &Partial, empty: Result<Partial, AllocError>) {
+    if let Ok(empty) = empty {
+        write!(answer, "empty {}", *partial == empty);
+        drop(empty);
+    }
+    for word in ["true", "false", "null"] {
+        push_contains(answer, partial, word);
+    }
+}
+
+fn push_contains(answer: &mut Answer, partial: &Partial, word: &str) {
+    match contains(partial, word) {
+        Ok(contains) => write!(answer, ", {word} {contains}"),
+        Err(error) => answer.push_debug(error),
+    }
 }
 
 fn contains(partial: &Partial, word: &str) -> Result<bool, Unsupported> {
@@ -83,49 +106,45 @@ fn insert_list(
 ) -> Result<Result<(), Unsupported>, AllocError> {
     let item = Box::new(alloc, DType::Bool(Nullability::Nullable))?;
     let dtype = DType::List(item, Nullability::NonNullable);
-    if null {
-        let value = Value::Null;
-        let inserted = partial.insert_scalar(&dtype, &value);
-        drop(value);
-        drop(dtype);
-        Ok(inserted)
+    let value = if null {
+        Value::Null
     } else {
-        let value = Value::List(Vec::new(alloc));
-        let inserted = partial.insert_scalar(&dtype, &value);
-        drop(value);
-        drop(dtype);
-        Ok(inserted)
-    }
+        Value::List(Vec::new(alloc))
+    };
+    let inserted = partial.insert_scalar(&dtype, &value);
+    drop(value);
+    drop(dtype);
+    Ok(inserted)
 }
 
-pub(crate) fn inserted_list(alloc: Global, given: &str) -> anyhow::Result<String> {
+/// What an empty filter says to it.
+fn inserted(alloc: Global, null: bool) -> Result<Result<(), Unsupported>, AllocError> {
     let mut partial = BloomFilter.empty_partial(alloc, &BloomOptions::default())?;
-    match insert_list(alloc, &mut partial, given == "null")? {
-        Ok(()) => Ok(String::from_str(alloc, "Ok")?),
-        Err(error) => Ok(format!(in alloc; "{error:?}")?),
+    let inserted = insert_list(alloc, &mut partial, null);
+    drop(partial);
+    inserted
+}
+
+fn push_inserted(answer: &mut Answer, inserted: Result<Result<(), Unsupported>, AllocError>) {
+    match inserted {
+        Ok(Ok(())) => answer.push_str("Ok"),
+        Ok(Err(error)) => answer.push_debug(error),
+        Err(error) => answer.push(error),
     }
 }
 
-/// The state's type on lists of booleans, or on booleans.
-fn state_of(alloc: Global, list: bool) -> Result<Option<DType>, AllocError> {
+/// Of the state on lists of booleans, or on booleans.
+fn state(alloc: Global, list: bool) -> Result<Option<DType>, AllocError> {
     let dtype = dtype_of(alloc, list)?;
     let state = BloomFilter.state_dtype(&dtype);
     drop(dtype);
     state
 }
 
-pub(crate) fn state(alloc: Global, given: &str) -> anyhow::Result<String> {
-    let state = state_of(alloc, given == "list")?;
-    Ok(shown(alloc, state)?)
-}
-
-fn shown(alloc: Global, state: Option<DType>) -> Result<String, AllocError> {
+fn push_state(answer: &mut Answer, state: Result<Option<DType>, AllocError>) {
     match state {
-        Some(dtype) => {
-            let text = format!(in alloc; "{dtype}");
-            drop(dtype);
-            text
-        }
-        None => String::from_str(alloc, "none"),
+        Ok(Some(dtype)) => answer.push(dtype),
+        Ok(None) => answer.push_str("none"),
+        Err(error) => answer.push(error),
     }
 }

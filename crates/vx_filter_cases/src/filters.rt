@@ -1,10 +1,10 @@
 //! Filters, and their bytes.
 
-use crate::given::bytes;
+use crate::given::{bytes, count};
 use std::alloc::{AllocError, Global};
 use std::num::NonZeroU32;
-use vx_bloom::{BlockCount, BloomFilter, BloomOptions, BloomPartial, HashFn};
-use vx_case_lines::{cut, parts};
+use vx_bloom::{BlockCount, BloomFilter, BloomOptions, BloomPartial, HashFn, PartialError};
+use vx_case_lines::{Answer, cut, halves};
 use vx_hash::{ByteHash, XxHash3_64};
 
 pub(crate) type Partial = BloomPartial<XxHash3_64>;
@@ -27,72 +27,165 @@ fn filter_of<H: ByteHash>(
     Ok(partial)
 }
 
-pub(crate) fn filter(alloc: Global, given: &str) -> anyhow::Result<Partial> {
+pub(crate) fn filter(alloc: Global, given: &str) -> Result<Partial, AllocError> {
     let (blocks, words) = cut(given);
-    Ok(filter_of(alloc, blocks.parse::<u32>()?, words)?)
+    filter_of(alloc, count(blocks), words)
 }
 
-pub(crate) fn shown(alloc: Global, given: &str) -> anyhow::Result<String> {
-    let bytes = filter(alloc, given)?.serialize(alloc)?;
+/// Of the words `filter`, `contains`, `read`, `saturated`, `union` and `merge`.
+pub(crate) fn tell(alloc: Global, answer: &mut Answer, word: &str, given: &str) {
+    let (first, rest) = halves(given);
+    match word {
+        "read" => push_read(answer, read(alloc, first), filter(alloc, rest)),
+        "saturated" => push_saturated(answer, read(alloc, first)),
+        "filter" => push_bytes(alloc, answer, serialized(alloc, first)),
+        "contains" => push_contains(answer, filter(alloc, first), rest),
+        _ => push_union(alloc, answer, word, first, rest),
+    }
+}
+
+fn serialized(alloc: Global, given: &str) -> Result<Vec<u8>, AllocError> {
+    let filter = filter(alloc, given)?;
+    let bytes = filter.serialize(alloc);
+    drop(filter);
+    bytes
+}
+
+fn push_contains(answer: &mut Answer, filter: Result<Partial, AllocError>, word: &str) {
+    match filter {
+        Ok(filter) => {
+            answer.push(filter.contains(word.as_bytes()));
+            drop(filter);
+        }
+        Err(error) => answer.push(error),
+    }
+}
+
+fn push_bytes(alloc: Global, answer: &mut Answer, bytes: Result<Vec<u8>, AllocError>) {
+    match bytes {
+        Ok(bytes) => {
+            push_blocks(alloc, answer, &bytes);
+            drop(bytes);
+        }
+        Err(error) => answer.push(error),
+    }
+}
+
+fn push_blocks(alloc: Global, answer: &mut Answer, bytes: &[u8]) {
     let count = bytes.iter().filter(|b| **b != 0).count();
-    let mut text = format!(in alloc; "{} bytes, {count} not 0", bytes.len())?;
-    push_blocks(alloc, &mut text, &bytes)?;
-    Ok(text)
+    write!(answer, "{} bytes, {count} not 0", bytes.len());
+    for (number, block) in bytes.chunks(32).enumerate() {
+        push_block(alloc, answer, number, block);
+    }
 }
 
-/// The blocks that aren't 0.
-fn push_blocks(alloc: Global, text: &mut String, bytes: &[u8]) -> Result<(), AllocError> {
-    for (number, block) in bytes.chunks(32).enumerate() {
-        if block.iter().any(|b| *b != 0) {
-            let block = hex::encode(alloc, block)?;
-            write!(text, ", block {number} {block}")?;
+/// The block, where it isn't 0.
+fn push_block(alloc: Global, answer: &mut Answer, number: usize, block: &[u8]) {
+    if block.iter().any(|b| *b != 0) {
+        write!(answer, ", block {number} ");
+        answer.push_given(hex::encode(alloc, block));
+    }
+}
+
+fn read(alloc: Global, digits: &str) -> Result<Partial, PartialError> {
+    let bytes = bytes(alloc, digits);
+    let read = Partial::deserialize(alloc, &bytes);
+    drop(bytes);
+    read
+}
+
+fn push_read(
+    answer: &mut Answer,
+    read: Result<Partial, PartialError>,
+    wanted: Result<Partial, AllocError>,
+) {
+    match read {
+        Ok(filter) => {
+            answer.push_str("equal ");
+            push_equal(answer, filter, wanted);
+        }
+        Err(error) => {
+            drop(wanted);
+            answer.push_debug(error);
         }
     }
-    Ok(())
 }
 
-pub(crate) fn contained(alloc: Global, given: &str) -> anyhow::Result<String> {
-    let (given, word) = parts(given)?;
-    let contains = filter(alloc, given)?.contains(word.as_bytes());
-    Ok(format!(in alloc; "{contains}")?)
-}
-
-pub(crate) fn read(alloc: Global, given: &str) -> anyhow::Result<String> {
-    let (given, wanted) = parts(given)?;
-    let bytes = bytes(alloc, given)?;
-    let wanted = filter(alloc, wanted)?;
-    Ok(read_as(alloc, &bytes, &wanted)?)
-}
-
-fn read_as(alloc: Global, bytes: &[u8], wanted: &Partial) -> Result<String, AllocError> {
-    match Partial::deserialize(alloc, bytes) {
-        Ok(filter) => format!(in alloc; "equal {}", filter == *wanted),
-        Err(error) => format!(in alloc; "{error:?}"),
+fn push_saturated(answer: &mut Answer, read: Result<Partial, PartialError>) {
+    match read {
+        Ok(filter) => {
+            answer.push(BloomFilter.is_saturated(&filter));
+            answer.push_str(" ");
+            answer.push(filter.is_saturated());
+            drop(filter);
+        }
+        Err(error) => answer.push(error),
     }
-}
-
-pub(crate) fn saturated(alloc: Global, given: &str) -> anyhow::Result<String> {
-    let filter = Partial::deserialize(alloc, &bytes(alloc, given)?)?;
-    let one = BloomFilter.is_saturated(&filter);
-    let other = filter.is_saturated();
-    Ok(format!(in alloc; "{one} {other}")?)
-}
-
-/// Of the words `union` and `merge`.
-pub(crate) fn union(alloc: Global, word: &str, given: &str) -> anyhow::Result<String> {
-    let (first, rest) = parts(given)?;
-    let mut filter = filter(alloc, first)?;
-    united_with(alloc, word, &mut filter, rest)
 }
 
 /// The filter with a second one, and a third that both together are to be.
-fn united_with(alloc: Global, word: &str, a: &mut Partial, given: &str) -> anyhow::Result<String> {
-    let (second, third) = parts(given)?;
-    let b = filter(alloc, second)?;
-    let equal = *a == b;
-    let answer = unite(word, a, &b);
-    let third = filter(alloc, third)?;
-    Ok(united(alloc, equal, answer, *a == third)?)
+fn push_union(alloc: Global, answer: &mut Answer, word: &str, first: &str, rest: &str) {
+    let (second, third) = halves(rest);
+    match filter(alloc, first) {
+        Ok(one) => push_with(
+            answer,
+            word,
+            one,
+            filter(alloc, second),
+            filter(alloc, third),
+        ),
+        Err(error) => answer.push(error),
+    }
+}
+
+fn push_with(
+    answer: &mut Answer,
+    word: &str,
+    mut one: Partial,
+    other: Result<Partial, AllocError>,
+    wanted: Result<Partial, AllocError>,
+) {
+    match other {
+        Ok(other) => {
+            write!(answer, "equal {}, then ", one == other);
+            let united = unite(word, &mut one, &other);
+            drop(other);
+            push_united(answer, united, one, wanted);
+        }
+        Err(error) => {
+            drop(one);
+            drop(wanted);
+            answer.push(error);
+        }
+    }
+}
+
+fn push_united(
+    answer: &mut Answer,
+    united: Result<(), BlockCount>,
+    both: Partial,
+    wanted: Result<Partial, AllocError>,
+) {
+    match united {
+        Ok(()) => push_equal(answer, both, wanted),
+        Err(error) => {
+            drop(both);
+            drop(wanted);
+            answer.push_debug(error);
+        }
+    }
+}
+
+/// Whether the filter is the one that is wanted.
+fn push_equal(answer: &mut Answer, filter: Partial, wanted: Result<Partial, AllocError>) {
+    match wanted {
+        Ok(wanted) => {
+            answer.push(filter == wanted);
+            drop(wanted);
+        }
+        Err(error) => answer.push(error),
+    }
+    drop(filter);
 }
 
 fn unite(word: &str, a: &mut Partial, b: &Partial) -> Result<(), BlockCount> {
@@ -100,17 +193,5 @@ fn unite(word: &str, a: &mut Partial, b: &Partial) -> Result<(), BlockCount> {
         a.union(b)
     } else {
         BloomFilter.merge_partials(a, b)
-    }
-}
-
-fn united(
-    alloc: Global,
-    equal: bool,
-    answer: Result<(), BlockCount>,
-    third: bool,
-) -> Result<String, AllocError> {
-    match answer {
-        Ok(()) => format!(in alloc; "equal {equal}, then {third}"),
-        Err(error) => format!(in alloc; "equal {equal}, then {error:?}"),
     }
 }

@@ -2,7 +2,12 @@
 
 use std::alloc::Global;
 
-pub(crate) fn bytes(alloc: Global, text: &str) -> anyhow::Result<Vec<u8>> {
-    let digits = if text == "-" { "" } else { text };
-    Ok(hex::decode(alloc, digits)?)
+/// None where the text is no bytes, as `-`.
+pub(crate) fn bytes(alloc: Global, text: &str) -> Vec<u8> {
+    hex::decode(alloc, text).unwrap_or(Vec::new(alloc))
+}
+
+/// 0 where the text is no such number.
+pub(crate) fn count(text: &str) -> u32 {
+    text.parse::<u32>().unwrap_or(0)
 }

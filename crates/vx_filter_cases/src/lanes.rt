@@ -4,12 +4,12 @@ ghost use Rattle.std.specs.Prelude.{◌≡◌, ◌≤◌, IfOk, length};
 ghost use Rattle.std.specs.Int.NonZero.{non_zero_u32_get};
 
 use crate::filters::Partial;
-use anyhow::Context;
+use crate::given::count;
 use std::alloc::{AllocError, Global};
 use std::num::NonZeroU32;
 use vx_bloom::{BloomOptions, HashFn};
 use vx_bloom_plain::PlainFilter;
-use vx_case_lines::cut;
+use vx_case_lines::{Answer, cut};
 use vx_hash::{ByteHash, XxHash3_64};
 
 fn insert_all(lanes: &mut Partial, from: u64, to: u64)
@@ -84,36 +84,83 @@ fn found_of_plain(plain: &PlainFilter, to: u64) -> u64 {
 }
 
 /// Of the words `BLOCKS COUNT`: filters of the numbers below the count.
-pub(crate) fn compared(alloc: Global, given: &str) -> anyhow::Result<String> {
-    let (blocks, count) = cut(given);
-    let blocks = NonZeroU32::new(blocks.parse::<u32>()?).context("no blocks")?;
-    let count = u64::from(count.parse::<u32>()?);
-    let lanes = filter_of(alloc, blocks, 0, count)?;
-    let plain = plain_filter_of(alloc, blocks, 0, count)?;
-    let equal = are_equal(&lanes, &plain, blocks);
-    let united = unions_equal(alloc, &lanes, blocks, count)?;
-    let found = found_of(&lanes, 2 * count);
-    let found_plain = found_of_plain(&plain, 2 * count);
-    let full = lanes.is_saturated();
-    let full_plain = plain.is_saturated();
-    Ok(format!(in alloc;
-        "equal {equal}, unions {united}, found {found} {found_plain}, saturated {full} {full_plain}"
-    )?)
+pub(crate) fn tell(alloc: Global, answer: &mut Answer, given: &str) {
+    let (blocks, numbers) = cut(given);
+    let blocks = NonZeroU32::new(count(blocks)).unwrap_or(NonZeroU32::MIN);
+    let lanes = filter_of(alloc, blocks, 0, u64::from(count(numbers)));
+    match lanes {
+        Ok(lanes) => {
+            tell_of(alloc, answer, &lanes, blocks, count(numbers));
+            drop(lanes);
+        }
+        Err(error) => answer.push(error),
+    }
+}
+
+fn tell_of(alloc: Global, answer: &mut Answer, lanes: &Partial, blocks: NonZeroU32, count: u32)
+    requires { length lanes.now ≡ non_zero_u32_get blocks }
+{
+    let count = u64::from(count);
+    match plain_filter_of(alloc, blocks, 0, count) {
+        Ok(plain) => {
+            write!(answer, "equal {}", are_equal(lanes, &plain, blocks));
+            push_unions(alloc, answer, lanes, blocks, count);
+            push_found(answer, lanes, &plain, 2 * count);
+            drop(plain);
+        }
+        Err(error) => answer.push(error),
+    }
+}
+
+fn push_found(answer: &mut Answer, lanes: &Partial, plain: &PlainFilter, to: u64) {
+    let found = found_of(lanes, to);
+    let found_plain = found_of_plain(plain, to);
+    write!(answer, ", found {found} {found_plain}, saturated ");
+    write!(answer, "{} {}", lanes.is_saturated(), plain.is_saturated());
 }
 
 /// Whether the filters of the two halves together are the filter, in both forms.
-fn unions_equal(
-    alloc: Global,
-    lanes: &Partial,
-    blocks: NonZeroU32,
-    count: u64,
-) -> anyhow::Result<bool>
+fn push_unions(alloc: Global, answer: &mut Answer, lanes: &Partial, blocks: NonZeroU32, count: u64)
     requires { length lanes.now ≡ non_zero_u32_get blocks }
 {
+    match plain_union_of(alloc, blocks, count) {
+        Ok(plain) => {
+            let equal = are_equal(lanes, &plain, blocks);
+            drop(plain);
+            push_union(answer, lanes, union_of(alloc, blocks, count), equal);
+        }
+        Err(error) => answer.push(error),
+    }
+}
+
+fn push_union(
+    answer: &mut Answer,
+    lanes: &Partial,
+    united: anyhow::Result<Partial>,
+    plain_is_equal: bool,
+) {
+    match united {
+        Ok(united) => {
+            write!(answer, ", unions {}", plain_is_equal && united == *lanes);
+            drop(united);
+        }
+        Err(error) => answer.push(error),
+    }
+}
+
+/// The filter of the two halves together.
+fn union_of(alloc: Global, blocks: NonZeroU32, count: u64) -> anyhow::Result<Partial> {
     let half = count / 2;
     let mut first = filter_of(alloc, blocks, 0, half)?;
     first.union(&filter_of(alloc, blocks, half, count)?)?;
-    let mut plain = plain_filter_of(alloc, blocks, 0, half)?;
-    plain.union(&plain_filter_of(alloc, blocks, half, count)?);
-    Ok(first == *lanes && are_equal(lanes, &plain, blocks))
+    Ok(first)
+}
+
+fn plain_union_of(alloc: Global, blocks: NonZeroU32, count: u64) -> Result<PlainFilter, AllocError>
+    ensures { IfOk result (λ p. length p ≡ non_zero_u32_get blocks) }
+{
+    let half = count / 2;
+    let mut first = plain_filter_of(alloc, blocks, 0, half)?;
+    first.union(&plain_filter_of(alloc, blocks, half, count)?);
+    Ok(first)
 }

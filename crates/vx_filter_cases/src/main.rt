@@ -34,14 +34,14 @@ mod options;
 mod scalars;
 mod stored;
 
+use crate::case::FilterCases;
 use std::io;
+use vx_case_lines::answers;
 
 fn main(rt: HostRuntime) -> anyhow::Result<()> {
     let alloc = rt.alloc();
     let cases = io::read_to_string(alloc, rt.stdin())?;
-    for line in cases.lines() {
-        let text = case::answer(alloc, line)?;
-        print!(rt; "{text}")?;
-    }
+    let text = answers::<FilterCases>(alloc, &cases)?;
+    print!(rt; "{text}")?;
     Ok(())
 }

@@ -1,17 +1,28 @@
 //! Options of filters as bytes.
 
 use crate::given::bytes;
-use std::alloc::Global;
+use std::alloc::{AllocError, Global};
 use vx_bloom::BloomOptions;
+use vx_case_lines::Answer;
 
-pub(crate) fn read(alloc: Global, given: &str) -> anyhow::Result<String> {
-    match BloomOptions::deserialize(&bytes(alloc, given)?) {
-        Ok(options) => Ok(format!(in alloc; "{options}")?),
-        Err(error) => Ok(format!(in alloc; "{error:?}")?),
+/// Of bytes.
+pub(crate) fn tell(alloc: Global, answer: &mut Answer, given: &str) {
+    let bytes = bytes(alloc, given);
+    match BloomOptions::deserialize(&bytes) {
+        Ok(options) => answer.push(options),
+        Err(error) => answer.push_debug(error),
     }
+    drop(bytes);
 }
 
-pub(crate) fn default_bytes(alloc: Global) -> anyhow::Result<String> {
+/// The bytes of those by default.
+pub(crate) fn tell_default(alloc: Global, answer: &mut Answer) {
+    answer.push_given(default_digits(alloc));
+}
+
+fn default_digits(alloc: Global) -> Result<String, AllocError> {
     let bytes = BloomOptions::default().serialize(alloc)?;
-    Ok(hex::encode(alloc, &bytes)?)
+    let digits = hex::encode(alloc, bytes.as_slice());
+    drop(bytes);
+    digits
 }

@@ -9,7 +9,7 @@ use crate::filters::{Partial, options};
 use crate::given::bytes;
 use anyhow::Context;
 use std::alloc::{AllocError, Global};
-use vx_case_lines::cut;
+use vx_case_lines::{Answer, cut};
 use vx_model::{Blob, Cell, DType, ExtDType, Nullability, PType, Text, Value, fits_one};
 
 /// The type as one of its own.
@@ -54,38 +54,73 @@ fn scalar(alloc: Global, name: &str, text: &str) -> anyhow::Result<(DType, Value
             let bytes = hex::decode(alloc, text)?;
             Ok((DType::Binary(some), Value::Binary(Blob::from(bytes))))
         }
-        "days" => {
-            let (storage, value) = integer("i32", text).context("no integer")?;
-            Ok((extended(alloc, storage)?, value))
-        }
+        "days" => days(alloc, text),
         _ => integer(name, text).context("no integer"),
     }
 }
 
-pub(crate) fn scalar_answer(alloc: Global, given: &str) -> anyhow::Result<String> {
+/// An integer of a type of its own.
+fn days(alloc: Global, text: &str) -> anyhow::Result<(DType, Value)>
+    ensures { IfOk result (λ r. IsTrue (is_row_value (ty r.0) (val r.1))) }
+{
+    let (storage, value) = integer("i32", text).context("no integer")?;
+    match extended(alloc, storage) {
+        Ok(dtype) => Ok((dtype, value)),
+        Err(error) => {
+            drop(value);
+            Err(error.into())
+        }
+    }
+}
+
+pub(crate) fn tell(alloc: Global, answer: &mut Answer, given: &str) {
     let (name, rest) = cut(given);
     let (text, hashed) = cut(rest);
-    let bytes = bytes(alloc, hashed)?;
-    let (dtype, value) = scalar(alloc, name, text)?;
-    let answer = hashed_as(alloc, &dtype, &value, &bytes);
-    drop(value);
-    drop(dtype);
-    answer
+    match scalar(alloc, name, text) {
+        Ok((dtype, value)) => {
+            if let Err(error) = push_hashed(alloc, answer, &dtype, &value, hashed) {
+                answer.push(error);
+            }
+            drop(value);
+            drop(dtype);
+        }
+        Err(error) => answer.push(error),
+    }
 }
 
 /// Whether the value goes into a filter as these bytes.
-fn hashed_as(alloc: Global, dtype: &DType, value: &Value, bytes: &[u8]) -> anyhow::Result<String>
+fn push_hashed(
+    alloc: Global,
+    answer: &mut Answer,
+    dtype: &DType,
+    value: &Value,
+    hashed: &str,
+) -> anyhow::Result<()>
     requires { IsTrue (is_row_value (ty dtype.now) (val value.now)) }
 {
     let mut by_value = Partial::from(alloc, &options(16))?;
     by_value.insert_scalar(dtype, value)?;
     let contained = by_value.contains_scalar(dtype, value)?;
-    let equal = by_value == filter_of_bytes(alloc, bytes)?;
-    Ok(format!(in alloc; "equal {equal}, contained {contained}")?)
+    push_equal(answer, by_value, filter_of_bytes(alloc, hashed));
+    write!(answer, ", contained {contained}");
+    Ok(())
 }
 
-fn filter_of_bytes(alloc: Global, bytes: &[u8]) -> Result<Partial, AllocError> {
+fn push_equal(answer: &mut Answer, by_value: Partial, by_bytes: Result<Partial, AllocError>) {
+    match by_bytes {
+        Ok(by_bytes) => {
+            write!(answer, "equal {}", by_value == by_bytes);
+            drop(by_bytes);
+        }
+        Err(error) => answer.push(error),
+    }
+    drop(by_value);
+}
+
+fn filter_of_bytes(alloc: Global, digits: &str) -> Result<Partial, AllocError> {
     let mut partial = Partial::from(alloc, &options(16))?;
-    partial.insert(bytes);
+    let bytes = bytes(alloc, digits);
+    partial.insert(&bytes);
+    drop(bytes);
     Ok(partial)
 }

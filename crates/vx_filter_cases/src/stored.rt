@@ -1,10 +1,27 @@
 //! Filters as stored values.
 
 use crate::filters::{Partial, filter, options};
-use std::alloc::{AllocError, Global};
+use crate::given::count;
+use std::alloc::Global;
 use vx_bloom::{BloomFilter, PartialError};
-use vx_case_lines::parts;
+use vx_case_lines::{Answer, halves};
 use vx_model::Value;
+
+/// Of the words `stored` and `stored_null`, which is read as the filter of no words.
+pub(crate) fn tell(alloc: Global, answer: &mut Answer, word: &str, given: &str) {
+    let (given, blocks) = halves(given);
+    match filter(alloc, given) {
+        Ok(filter) => {
+            if word == "stored" {
+                push_read(answer, &filter, read_again(alloc, &filter, count(blocks)));
+            } else {
+                push_read(answer, &filter, read_null(alloc, count(given)));
+            }
+            drop(filter);
+        }
+        Err(error) => answer.push(error),
+    }
+}
 
 /// The filter's value, read as a filter of so many blocks.
 fn read_again(alloc: Global, filter: &Partial, blocks: u32) -> Result<Partial, PartialError> {
@@ -14,30 +31,23 @@ fn read_again(alloc: Global, filter: &Partial, blocks: u32) -> Result<Partial, P
     read
 }
 
-pub(crate) fn stored(alloc: Global, given: &str) -> anyhow::Result<String> {
-    let (given, blocks) = parts(given)?;
-    let blocks = blocks.parse::<u32>()?;
-    let filter = filter(alloc, given)?;
-    Ok(stored_as(alloc, &filter, blocks)?)
-}
-
-fn stored_as(alloc: Global, filter: &Partial, blocks: u32) -> Result<String, AllocError> {
-    match read_again(alloc, filter, blocks) {
-        Ok(read) => format!(in alloc; "equal {}", read == *filter),
-        Err(error) => format!(in alloc; "{error:?}"),
-    }
-}
-
-pub(crate) fn stored_null(alloc: Global, given: &str) -> anyhow::Result<String> {
-    let blocks = given.parse::<u32>()?;
+fn read_null(alloc: Global, blocks: u32) -> Result<Partial, PartialError> {
     let null = Value::Null;
     let read = BloomFilter.partial_from_scalar(alloc, &options(blocks), &null);
     drop(null);
-    let read = read?;
-    let empty = filter(alloc, given)?;
-    Ok(format!(in alloc; "equal {}", read == empty)?)
+    read
 }
 
-pub(crate) fn id(alloc: Global) -> anyhow::Result<String> {
-    Ok(String::from_str(alloc, BloomFilter.id())?)
+fn push_read(answer: &mut Answer, filter: &Partial, read: Result<Partial, PartialError>) {
+    match read {
+        Ok(read) => {
+            write!(answer, "equal {}", read == *filter);
+            drop(read);
+        }
+        Err(error) => answer.push_debug(error),
+    }
+}
+
+pub(crate) fn tell_id(answer: &mut Answer) {
+    answer.push_str(BloomFilter.id());
 }

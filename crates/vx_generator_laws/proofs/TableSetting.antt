@@ -13,7 +13,7 @@ use Rattle.vx_rules.specs.Columns.{offset_cell}
 use Rattle.vx_rules.specs.Runs.{has_cell, with_cell, distinct_from}
 use Rattle.vx_rules.proofs.CellLaws.{length-struct_rows}
 use Rattle.vx_compressor_spec.specs.TableImage.{tree_eq, distinct, codes_of, code_ptype, dictionary, small_image, chosen_image, coded_image, table_image}
-use Rattle.vx_machine_view.specs.Images.{images_of}
+use Rattle.vx_machine_state.specs.Images.{images_of}
 use Rattle.vx_zone_spec.specs.ZoneTable.{Filled, state_cell, table_columns, table_piece}
 use Rattle.vx_segment_writer.specs.Segment.{buffers_below, heads_below, encode}
 use Rattle.vx_strategy_spec.specs.StrategyData.{FlatOptions}

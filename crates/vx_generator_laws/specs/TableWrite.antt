@@ -3,7 +3,7 @@ use Rattle.std.specs.Prelude.{ℕ, ◌≤◌, true, false, List, [], ◌∷◌, 
 use Rattle.vx_model.specs.declared.encoding.EncodingId.{EncodingId}
 use Rattle.vx_model.specs.declared.encoding.EncodingId.TheVariants.{Plain, Constant, Dict, Chunked, List as ListEncoding, Struct, Extension}
 use Rattle.vx_compressor_spec.specs.TableImage.{table_image}
-use Rattle.vx_machine_view.specs.Images.{images_of}
+use Rattle.vx_machine_state.specs.Images.{images_of}
 use Rattle.vx_plan.specs.PlanData.{Setting, Plan}
 use Rattle.vx_plan.specs.SourcePlan.{source_plan}
 use Rattle.vx_plan.specs.Valid.{Valid}

@@ -3,10 +3,10 @@ use Rattle.std.proofs.Common.{◌≡◌, ◌⊎◌, ℕ, zero, suc, ◌+◌, ◌
 use Rattle.std.proofs.lemmas.Bool.{true≢false}
 use Rattle.std.proofs.lemmas.List.Sums.{sum_by-cons}
 use Rattle.vx_path.specs.Lists.{In}
-use Rattle.vx_machine_view.specs.State.{Next, put, hand_on, press, probe, open_run, end_run, append, shut_kids, join_kids, start_table, leave_kid, Desk, Tasks, no_tasks, task_then}
-use Rattle.vx_machine_view.specs.Acts.{count}
-use Rattle.vx_machine_view.specs.Moves.{may_act}
-use Rattle.vx_machine_view.specs.Places.{one_if, ready_in}
+use Rattle.vx_machine_state.specs.State.{Next, put, hand_on, press, probe, open_run, end_run, append, shut_kids, join_kids, start_table, leave_kid, Desk, Tasks, no_tasks, task_then}
+use Rattle.vx_machine_state.specs.Acts.{count}
+use Rattle.vx_machine_state.specs.Moves.{may_act}
+use Rattle.vx_machine_state.specs.Places.{one_if, ready_in}
 use Rattle.vx_kept.specs.Kept.{counted, ready_at, ready_each, FreshFrom, Fresh, Steady, KnowsFrom, Knows, GoingFrom, asked_of, ready_of, kids_of}
 use Rattle.vx_kept.specs.Follow.{KidIs, waits}
 use Rattle.vx_kept.specs.declared.counts.Counts.{Counts}

@@ -5,11 +5,11 @@ use Rattle.vx_plan.specs.PlanData.{Setting, Item}
 use Rattle.vx_plan.specs.DictNode.{is_dictionary}
 use Rattle.vx_path.specs.Path.{Eof, under, inside, next}
 use Rattle.vx_zone_spec.specs.ZoneTable.{Filled, kept_columns}
-use Rattle.vx_machine_view.specs.Zoned.{table_item}
-use Rattle.vx_machine_view.specs.Coder.{Coder}
-use Rattle.vx_machine_view.specs.State.{Next, put, hand_on, press, probe, open_run, end_run, append, shut_kids, join_kids, start_table, leave_kid, Mind, no_chunk, one_chunk, by_chunk, by_column, by_list, by_block, by_size, as_one, by_image, as_is, by_probe, asking, by_run, by_zone, ending, passing, made, Desk, Tasks, no_tasks, task_then}
-use Rattle.vx_machine_view.specs.Start.{started_task}
-use Rattle.vx_machine_view.specs.Acts.{count, give, add, shut_at, end_at, column_count, probed, run_tasks, take_chunk, end_columns, end_lists, end_zones, take_end, do_take, do_act}
+use Rattle.vx_machine_state.specs.Zoned.{table_item}
+use Rattle.vx_machine_state.specs.Coder.{Coder}
+use Rattle.vx_machine_state.specs.State.{Next, put, hand_on, press, probe, open_run, end_run, append, shut_kids, join_kids, start_table, leave_kid, Mind, no_chunk, one_chunk, by_chunk, by_column, by_list, by_block, by_size, as_one, by_image, as_is, by_probe, asking, by_run, by_zone, ending, passing, made, Desk, Tasks, no_tasks, task_then}
+use Rattle.vx_machine_state.specs.Start.{started_task}
+use Rattle.vx_machine_state.specs.Acts.{count, give, add, shut_at, end_at, column_count, probed, run_tasks, take_chunk, end_columns, end_lists, end_zones, take_end, do_take, do_act}
 use Rattle.vx_kept.specs.Kept.{KnowsFrom, Knows, asked_of, ready_of, kids_of}
 use Rattle.vx_kept.specs.Follow.{touched_by, Follows}
 use Rattle.vx_kept.specs.declared.counts.Counts.{Counts}

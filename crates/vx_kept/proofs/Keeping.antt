@@ -2,8 +2,8 @@
 use Rattle.std.proofs.Common.{◌≡◌, ◌⊎◌, ℕ, zero, suc, ◌+◌, ◌<◌, ◌++◌, List, [], ◌∷◌, length, set, sym, subst, arith, inl, inr, ⊎_elim}
 use Rattle.vx_path.specs.Lists.{In}
 use Rattle.vx_plan.specs.PlanData.{Item}
-use Rattle.vx_machine_view.specs.State.{Desk, Tasks, no_tasks, task_then}
-use Rattle.vx_machine_view.specs.Acts.{give, shut_at, add, count}
+use Rattle.vx_machine_state.specs.State.{Desk, Tasks, no_tasks, task_then}
+use Rattle.vx_machine_state.specs.Acts.{give, shut_at, add, count}
 use Rattle.vx_kept.specs.Kept.{KnowsFrom, Knows}
 use Rattle.vx_kept.specs.Follow.{swap}
 use Rattle.vx_kept.specs.declared.counts.Counts.{Counts}

@@ -4,8 +4,8 @@ use Rattle.std.specs.List.{list_any}
 use Rattle.std.proofs.lemmas.Bool.{true≢false}
 use Rattle.std.proofs.lemmas.Bool.Decides.{nat_tests}
 use Rattle.vx_path.specs.Lists.{In}
-use Rattle.vx_machine_view.specs.State.{Tasks, no_tasks, task_then}
-use Rattle.vx_machine_view.specs.Acts.{count}
+use Rattle.vx_machine_state.specs.State.{Tasks, no_tasks, task_then}
+use Rattle.vx_machine_state.specs.Acts.{count}
 use Rattle.vx_kept.specs.Kept.{FreshFrom, Fresh, KnowsFrom, Knows}
 use Rattle.vx_kept.specs.declared.counts.Counts.{Counts, out-Counts}
 use Rattle.vx_kept.specs.declared.counts.Counts.TheOpen.{Counts-F}

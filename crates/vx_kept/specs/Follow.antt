@@ -1,8 +1,8 @@
 -- What an act may change of the counts of its task's children.
 use Rattle.std.specs.Prelude.{◌≡◌, ℕ, zero, suc, Bool, true, false, List, [], ◌∷◌}
 use Rattle.vx_plan.specs.PlanData.{Item}
-use Rattle.vx_machine_view.specs.State.{Next, put, hand_on, press, probe, open_run, end_run, append, shut_kids, join_kids, start_table, leave_kid, Desk, Tasks, no_tasks, task_then}
-use Rattle.vx_machine_view.specs.Acts.{give, add, end_at}
+use Rattle.vx_machine_state.specs.State.{Next, put, hand_on, press, probe, open_run, end_run, append, shut_kids, join_kids, start_table, leave_kid, Desk, Tasks, no_tasks, task_then}
+use Rattle.vx_machine_state.specs.Acts.{give, add, end_at}
 use Rattle.vx_kept.specs.declared.counts.Touched.{Touched}
 use Rattle.vx_kept.specs.declared.counts.Touched.TheVariants.{Child, Both, All, Nothing}
 

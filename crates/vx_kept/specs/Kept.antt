@@ -1,9 +1,9 @@
 -- What is kept of a task's children: how many were ready of each and below it, as was counted last, and which are to be counted anew.
 use Rattle.std.specs.Prelude.{◌≡◌, ◌⊎◌, ℕ, suc, ◌+◌, ◌-◌, ◌^◌, min, List, [], ◌∷◌}
 use Rattle.vx_path.specs.Lists.{In}
-use Rattle.vx_machine_view.specs.State.{Desk, Tasks, no_tasks, task_then}
-use Rattle.vx_machine_view.specs.Moves.{may_act}
-use Rattle.vx_machine_view.specs.Places.{one_if, ready_in}
+use Rattle.vx_machine_state.specs.State.{Desk, Tasks, no_tasks, task_then}
+use Rattle.vx_machine_state.specs.Moves.{may_act}
+use Rattle.vx_machine_state.specs.Places.{one_if, ready_in}
 use Rattle.vx_kept.specs.declared.counts.Counts.{Counts, out-Counts}
 
 -- as far as 64 bits tell

@@ -1,8 +1,8 @@
 //! What is kept of a task's children.
 
 ghost use Rattle.std.specs.Prelude.{◌≡◌, ℕ, List, [], ◌∷◌, OnOk};
-ghost use Rattle.vx_machine_view.specs.State.{Tasks};
-ghost use Rattle.vx_machine_view.specs.Acts.{count};
+ghost use Rattle.vx_machine_state.specs.State.{Tasks};
+ghost use Rattle.vx_machine_state.specs.Acts.{count};
 ghost use Rattle.vx_kept.specs.Kept.{KnowsFrom, GoingFrom, Knows, asked_of, ready_of, kids_of};
 ghost use Rattle.vx_kept.specs.Follow.{Follows};
 

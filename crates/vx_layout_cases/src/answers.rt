@@ -1,41 +1,46 @@
 //! What each word prints.
 
-use crate::children::asked_of;
-use crate::opened::opened;
-use crate::own::{own, with};
-use crate::segments::{lengths, rows, tree};
-use crate::sessions::{copied_scope, known, registered};
-use crate::shown::{as_kinds, names, slots};
-use crate::spelling::{again, codes, metadata, node, sent, viewed};
-use crate::walks::{in_slot, present, walk};
-use anyhow::{Result, bail};
+use crate::children::tell_children;
+use crate::opened::tell_opened;
+use crate::own::{tell_own, with};
+use crate::segments::{tell_lengths, tell_rows, tell_tree};
+use crate::sessions::{tell_known, tell_registered, tell_scope};
+use crate::shown::{tell_kinds, tell_names, tell_slots};
+use crate::spelling::{tell_codes, tell_metadata, tell_node, tell_viewed};
+use crate::walks::{in_slot, tell_present, tell_walk};
+use anyhow::Result;
 use std::alloc::Global;
 use std::thread::Threads;
-use vx_case_lines::boxed;
+use vx_case_lines::{Answer, number};
 use vx_layout::Layout;
 
-pub(crate) fn layout_answer(
+pub(crate) fn tell_layout(
     rt: &impl Threads,
     alloc: Global,
+    answer: &mut Answer,
     word: &str,
     args: &str,
     layout: &Layout,
-) -> Result<String> {
+) {
     match word {
-        "build" | "slots" => slots(alloc, layout),
-        "copy" | "slot" | "with" => slots_of_other(alloc, word, args, layout),
-        "names" => names(alloc, layout),
-        "kinds" => as_kinds(alloc, layout),
-        "own" => own(alloc, layout),
-        "present" => present(alloc, layout),
-        "walk" => walk(alloc, layout),
-        "tree" => tree(alloc, layout),
-        "lengths" => lengths(alloc, layout, args),
-        "rows" => rows(alloc, layout, args),
-        "viewed" => viewed(alloc, layout),
-        "sent" => sent(rt, alloc, layout),
-        "again" => again(alloc, layout),
-        _ => bail!("no such word"),
+        "copy" | "slot" | "with" => tell_other(alloc, answer, word, args, layout),
+        "viewed" | "sent" | "again" => tell_viewed(rt, alloc, answer, word, layout),
+        "lengths" => tell_lengths(alloc, answer, layout, args),
+        "rows" => tell_rows(alloc, answer, layout, args),
+        _ => tell_itself(alloc, answer, word, layout),
+    }
+}
+
+fn tell_itself(alloc: Global, answer: &mut Answer, word: &str, layout: &Layout) {
+    match word {
+        "build" | "slots" => tell_slots(alloc, answer, layout),
+        "names" => tell_names(alloc, answer, layout),
+        "kinds" => tell_kinds(answer, layout),
+        "own" => tell_own(alloc, answer, layout),
+        "present" => tell_present(alloc, answer, layout),
+        "walk" => tell_walk(alloc, answer, layout),
+        "tree" => tell_tree(alloc, answer, layout),
+        _ => answer.push_str("no such word"),
     }
 }
 
@@ -43,26 +48,32 @@ pub(crate) fn layout_answer(
 fn other(alloc: Global, word: &str, args: &str, layout: &Layout) -> Result<Layout> {
     match word {
         "copy" => Ok(layout.to_layout()?),
-        "slot" => in_slot(layout, args),
+        "slot" => in_slot(layout, number(args)),
         _ => with(alloc, layout, args),
     }
 }
 
-fn slots_of_other(alloc: Global, word: &str, args: &str, layout: &Layout) -> Result<String> {
-    let other = boxed(alloc, other(alloc, word, args, layout)?)?;
-    slots(alloc, &other)
+fn tell_other(alloc: Global, answer: &mut Answer, word: &str, args: &str, layout: &Layout) {
+    match other(alloc, word, args, layout) {
+        Ok(other) => {
+            tell_slots(alloc, answer, &other);
+            drop(other);
+        }
+        Err(error) => answer.push(error),
+    }
 }
 
-pub(crate) fn answer(alloc: Global, word: &str, args: &str) -> Result<String> {
+/// Of a word without a layout.
+pub(crate) fn tell_alone(alloc: Global, answer: &mut Answer, word: &str, args: &str) {
     match word {
-        "children" | "children_copy" => asked_of(alloc, word, args),
-        "known" => known(alloc, args),
-        "register" => registered(alloc, args),
-        "scope" => copied_scope(alloc, args),
-        "node" => node(alloc, args),
-        "opened" => opened(alloc, args),
-        "metadata" => metadata(alloc, args),
-        "codes" => codes(alloc, args),
-        _ => bail!("no such word"),
+        "children" | "children_copy" => tell_children(alloc, answer, word, args),
+        "known" => tell_known(alloc, answer, args),
+        "register" => tell_registered(alloc, answer, args),
+        "scope" => tell_scope(alloc, answer, args),
+        "node" => tell_node(alloc, answer, args),
+        "opened" => tell_opened(alloc, answer, args),
+        "metadata" => tell_metadata(alloc, answer, args),
+        "codes" => tell_codes(alloc, answer, args),
+        _ => answer.push_str("no such word"),
     }
 }

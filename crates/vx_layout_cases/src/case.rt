@@ -1,52 +1,55 @@
 //! A case and its answer.
 
-use crate::answers::{answer, layout_answer};
+use crate::answers::{tell_alone, tell_layout};
 use crate::layouts::layout;
-use anyhow::Result;
 use std::alloc::{AllocError, Global};
 use std::thread::Threads;
-use vx_case_lines::{boxed, cut, is_case};
+use vx_case_lines::{Answer, cut, is_case};
+
+/// The answers of all cases, one a line of the text.
+pub(crate) fn answers(rt: &impl Threads, alloc: Global, text: &str) -> Result<String, AllocError> {
+    let mut answer = Answer::new(alloc);
+    for line in text.lines() {
+        if is_case(line) {
+            tell(rt, alloc, &mut answer, line);
+        }
+    }
+    answer.into_text()
+}
 
 /// The lines of the answer, each behind the name of the case.
-pub(crate) fn answers(rt: &impl Threads, alloc: Global, line: &str) -> Result<String, AllocError> {
-    let mut out = String::new(alloc);
-    if !is_case(line) {
-        return Ok(out);
-    }
+fn tell(rt: &impl Threads, alloc: Global, answer: &mut Answer, line: &str) {
     let (name, asked) = cut(line);
-    let answer = answer_or_refusal(rt, alloc, asked)?;
-    for line in answer.lines() {
-        write!(out, "{name}: {line}\n")?;
-    }
-    Ok(out)
+    let mut told = Answer::new(alloc);
+    tell_asked(rt, alloc, &mut told, asked);
+    answer.push_lines(name, told);
 }
 
-/// The answer, or why there is none.
-fn answer_or_refusal(rt: &impl Threads, alloc: Global, asked: &str) -> Result<String, AllocError> {
-    match answered(rt, alloc, asked) {
-        Ok(text) => Ok(text),
-        Err(error) => format!(in alloc; "{error}"),
-    }
-}
-
-fn answered(rt: &impl Threads, alloc: Global, asked: &str) -> Result<String> {
-    if let Some((head, given)) = asked.split_once(" = ") {
-        let (word, args) = cut(head);
-        return of_layout(rt, alloc, word, args, given);
-    }
-    match cut(asked) {
-        ("build", parts) => of_layout(rt, alloc, "build", parts, asked),
-        (word, args) => answer(alloc, word, args),
+fn tell_asked(rt: &impl Threads, alloc: Global, answer: &mut Answer, asked: &str) {
+    let (head, given) = asked.split_once(" = ").unwrap_or((asked, ""));
+    let (word, args) = cut(head);
+    if word == "build" {
+        tell_of(rt, alloc, answer, word, args, asked);
+    } else if given.is_empty() {
+        tell_alone(alloc, answer, word, args);
+    } else {
+        tell_of(rt, alloc, answer, word, args, given);
     }
 }
 
-fn of_layout(
+fn tell_of(
     rt: &impl Threads,
     alloc: Global,
+    answer: &mut Answer,
     word: &str,
     args: &str,
     given: &str,
-) -> Result<String> {
-    let layout = boxed(alloc, layout(alloc, given)?)?;
-    layout_answer(rt, alloc, word, args, &layout)
+) {
+    match layout(alloc, given) {
+        Ok(layout) => {
+            tell_layout(rt, alloc, answer, word, args, &layout);
+            drop(layout);
+        }
+        Err(error) => answer.push(error),
+    }
 }

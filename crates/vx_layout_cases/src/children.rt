@@ -1,78 +1,69 @@
 //! What children by themselves are.
 
-use anyhow::Result;
 use std::alloc::{AllocError, Global};
 use vx_case_layouts::{children_in, dtype_in};
-use vx_case_lines::{boxed, cut};
+use vx_case_lines::{Answer, cut};
 use vx_layout::{LayoutChild, LayoutChildren, LayoutChildrenWalk, LayoutError};
 use vx_model::DType;
 
 /// Of the words `children` and `children_copy`.
-pub(crate) fn asked_of(alloc: Global, word: &str, args: &str) -> Result<String> {
+pub(crate) fn tell_children(alloc: Global, answer: &mut Answer, word: &str, args: &str) {
     let (dtype, text) = cut(args);
-    let dtype = boxed(alloc, dtype_in(dtype)?)?;
-    let children = boxed(alloc, children_in(alloc, text)?)?;
-    match word {
-        "children_copy" => asked_of_copy(alloc, &children, &dtype),
-        _ => asked(alloc, &children, &dtype),
+    match children_in(alloc, text) {
+        Ok(children) => tell_of(answer, word, children, dtype),
+        Err(error) => answer.push(error),
     }
 }
 
-fn asked_of_copy(alloc: Global, children: &LayoutChildren, dtype: &DType) -> Result<String> {
-    let copy = boxed(alloc, children.to_arc()?)?;
-    asked(alloc, &copy, dtype)
+fn tell_of(answer: &mut Answer, word: &str, children: LayoutChildren, dtype: &str) {
+    let dtype = dtype_in(dtype);
+    if word == "children_copy" {
+        tell_copy(answer, children.to_arc(), &dtype);
+    } else {
+        tell_each(answer, &children, &dtype);
+    }
+    drop(children);
+    drop(dtype);
+}
+
+fn tell_copy(answer: &mut Answer, copy: Result<LayoutChildren, AllocError>, dtype: &DType) {
+    match copy {
+        Ok(copy) => {
+            tell_each(answer, &copy, dtype);
+            drop(copy);
+        }
+        Err(error) => answer.push(error),
+    }
 }
 
 /// The children as layouts of the type, then their places and that of none.
-pub(crate) fn with_places(
-    alloc: Global,
-    children: &LayoutChildren,
-    dtype: &DType,
-) -> Result<String> {
-    let mut out = asked(alloc, children, dtype)?;
-    push_places(&mut out, children)?;
-    Ok(out)
-}
-
-fn push_places(out: &mut String, children: &LayoutChildren) -> Result<(), AllocError> {
-    let count = children.nchildren();
-    for i in 0..count {
-        write!(out, "\n{:?}", children.place(i))?;
-    }
-    write!(out, "\n{:?}", children.place(count))
-}
-
-fn asked(alloc: Global, children: &LayoutChildren, dtype: &DType) -> Result<String> {
-    let mut out = String::new(alloc);
+pub(crate) fn tell_places(answer: &mut Answer, children: &LayoutChildren, dtype: &DType) {
+    tell_each(answer, children, dtype);
     for i in 0..children.nchildren() {
-        let whole = children.child_is_indivisible(i);
-        let rows = children.child_row_count(i);
-        push_child(alloc, &mut out, children, i, dtype)?;
-        write!(out, " {whole} {rows}\n")?;
+        write!(answer, "\n{:?}", children.place(i));
     }
-    push_child(alloc, &mut out, children, children.nchildren(), dtype)?;
-    Ok(out)
+    write!(answer, "\n{:?}", children.place(children.nchildren()));
+}
+
+fn tell_each(answer: &mut Answer, children: &LayoutChildren, dtype: &DType) {
+    for i in 0..children.nchildren() {
+        push_child(answer, children.child(i, dtype));
+        let whole = children.child_is_indivisible(i);
+        write!(answer, " {whole} {}\n", children.child_row_count(i));
+    }
+    push_child(answer, children.child(children.nchildren(), dtype));
 }
 
 /// The child in a line, or the name of the refusal.
-fn push_child(
-    alloc: Global,
-    out: &mut String,
-    children: &LayoutChildren,
-    index: u64,
-    dtype: &DType,
-) -> Result<(), AllocError> {
-    match children.child(index, dtype) {
-        Ok(child) => push_layout(out, boxed(alloc, child)?),
-        Err(error) => push_refusal(alloc, out, error),
+fn push_child(answer: &mut Answer, child: Result<LayoutChild<'_>, LayoutError>) {
+    match child {
+        Ok(child) => {
+            answer.push(child.layout());
+            drop(child);
+        }
+        Err(error) => {
+            answer.push_str(error.name());
+            drop(error);
+        }
     }
-}
-
-fn push_refusal(alloc: Global, out: &mut String, error: LayoutError) -> Result<(), AllocError> {
-    let error = boxed(alloc, error)?;
-    out.push_str(error.name())
-}
-
-fn push_layout(out: &mut String, child: Box<LayoutChild<'_>>) -> Result<(), AllocError> {
-    write!(out, "{}", child.layout())
 }

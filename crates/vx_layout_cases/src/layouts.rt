@@ -4,14 +4,14 @@ ghost use Rattle.std.specs.Prelude.{◌≤◌, length, IsTrue, IfOk};
 ghost use Rattle.vx_metadata.specs.Values.{are_in_order};
 
 use crate::parts::built;
-use anyhow::{Error, Result, bail};
+use anyhow::{Result, bail};
 use bytes::Bytes;
 use std::alloc::{AllocError, Global};
 use std::num::NonZeroU32;
 use vx_case_layouts::{
     NUMBERS, TEXTS, children_in, dtype_in, encodings, leaf, leaf_with, leaves, place, push,
 };
-use vx_case_lines::{boxed, cut};
+use vx_case_lines::{cut, number};
 use vx_layout::{
     AggregateFn, ChunkedLayout, DictLayout, FlatLayout, ForeignLayout, Layout, LegacyStatsLayout,
     ListLayout, Stat, StructLayout, ZonedLayout, aggregate_stats_table_dtype, are_in_order,
@@ -49,60 +49,76 @@ fn flat(alloc: Global, text: &str) -> Result<Layout> {
 
 fn chunked(alloc: Global, text: &str) -> Result<Layout> {
     let (rows, rest) = cut(text);
-    let rows = rows.parse::<u64>()?;
     let children = children_in(alloc, rest)?;
-    Ok(ChunkedLayout::new(rows, NUMBERS, children)?.into_layout())
+    Ok(ChunkedLayout::new(number(rows), NUMBERS, children)?.into_layout())
 }
 
 fn fields(alloc: Global, nullability: Nullability, text: &str) -> Result<Layout> {
     let (rows, rest) = cut(text);
     let (field, rest) = cut(rest);
-    let rows = rows.parse::<u64>()?;
-    let leaves = leaves(alloc, rest)?;
     let dtype = record_of(alloc, field, nullability)?;
-    Ok(StructLayout::new(rows, dtype, leaves)?.into_layout())
+    match leaves(alloc, rest) {
+        Ok(leaves) => Ok(StructLayout::new(number(rows), dtype, leaves)?.into_layout()),
+        Err(error) => {
+            drop(dtype);
+            Err(error)
+        }
+    }
 }
 
 /// A struct with the field a of the type.
-fn record_of(alloc: Global, word: &str, nullability: Nullability) -> Result<DType> {
+fn record_of(alloc: Global, word: &str, nullability: Nullability) -> Result<DType, AllocError> {
     let name = Text::from_str(alloc, "a")?;
-    let dtype = dtype_in(word)?;
+    let dtype = dtype_in(word);
     let fields = vec![in alloc; StructField { name, dtype }]?;
     Ok(DType::Struct(StructFields { fields }, nullability))
 }
 
 fn list(alloc: Global, nullability: Nullability, text: &str) -> Result<Layout> {
     let (elements, rest) = cut(text);
-    let leaves = leaves(alloc, rest)?;
-    if leaves.len() < 2 {
-        bail!("a list without offsets");
-    }
     let dtype = list_of(alloc, elements, nullability)?;
-    list_above(alloc, dtype, leaves)
+    match leaves(alloc, rest) {
+        Ok(leaves) => list_above(alloc, dtype, leaves),
+        Err(error) => {
+            drop(dtype);
+            Err(error)
+        }
+    }
 }
 
-fn list_of(alloc: Global, elements: &str, nullability: Nullability) -> Result<DType> {
-    let elements = Box::new(alloc, dtype_in(elements)?)?;
+fn list_of(alloc: Global, elements: &str, nullability: Nullability) -> Result<DType, AllocError> {
+    let elements = Box::new(alloc, dtype_in(elements))?;
     Ok(DType::List(elements, nullability))
 }
 
 /// The list of elements, offsets and, where there is a third leaf, a validity.
-fn list_above(alloc: Global, dtype: DType, mut leaves: Vec<Layout>) -> Result<Layout>
-    requires { 2 ≤ length leaves.items }
-{
+fn list_above(alloc: Global, dtype: DType, mut leaves: Vec<Layout>) -> Result<Layout> {
+    if leaves.len() < 2 {
+        drop(leaves);
+        drop(dtype);
+        bail!("a list without offsets");
+    }
     let elements = leaves.remove(0);
     let offsets = leaves.remove(0);
     let validity = leaves.pop();
+    drop(leaves);
     Ok(ListLayout::new(alloc, dtype, elements, offsets, validity)?.into_layout())
 }
 
 fn dict(alloc: Global, text: &str) -> Result<Layout> {
-    let mut leaves = leaves(alloc, text)?;
+    let leaves = leaves(alloc, text)?;
+    dict_above(alloc, leaves)
+}
+
+/// The dictionary of values and codes.
+fn dict_above(alloc: Global, mut leaves: Vec<Layout>) -> Result<Layout> {
     if leaves.len() < 2 {
+        drop(leaves);
         bail!("a dictionary without codes");
     }
     let values = leaves.remove(0);
     let codes = leaves.remove(0);
+    drop(leaves);
     Ok(DictLayout::new(alloc, values, codes)?.into_layout())
 }
 
@@ -110,21 +126,16 @@ fn zoned(alloc: Global, text: &str) -> Result<Layout> {
     let (column, rest) = cut(text);
     let (zones, aggregate) = cut(rest);
     let maxima = maxima(alloc, aggregate)?;
-    let column = boxed(alloc, leaf(alloc, column)?)?;
-    let zones = zones_of(alloc, column.dtype(), &maxima, zones)?;
-    zoned_of(alloc, column, zones, maxima)
-}
-
-fn zoned_of(
-    alloc: Global,
-    column: Box<Layout>,
-    zones: Layout,
-    maxima: Vec<AggregateFn>,
-) -> Result<Layout>
-    requires { length maxima.items ≤ 1 }
-{
-    let column = Box::into_inner(column);
-    Ok(ZonedLayout::try_new(alloc, column, zones, NonZeroU32::MIN, maxima)?.into_layout())
+    let column = leaf(alloc, column)?;
+    match zones_of(alloc, column.dtype(), &maxima, zones) {
+        Ok(zones) => {
+            Ok(ZonedLayout::try_new(alloc, column, zones, NonZeroU32::MIN, maxima)?.into_layout())
+        }
+        Err(error) => {
+            drop(column);
+            Err(error)
+        }
+    }
 }
 
 fn maxima(alloc: Global, word: &str) -> Result<Vec<AggregateFn>, AllocError>
@@ -138,7 +149,7 @@ fn maxima(alloc: Global, word: &str) -> Result<Vec<AggregateFn>, AllocError>
 }
 
 fn zones_of(alloc: Global, column: &DType, maxima: &[AggregateFn], text: &str) -> Result<Layout> {
-    let (rows, segment) = place(text)?;
+    let (rows, segment) = place(text);
     let encodings = encodings(alloc)?;
     let table = aggregate_stats_table_dtype(alloc, column, maxima)?;
     Ok(FlatLayout::new(rows, table, segment, encodings).into_layout())
@@ -148,21 +159,14 @@ fn statistics(alloc: Global, text: &str) -> Result<Layout> {
     let (column, rest) = cut(text);
     let (zones, stat) = cut(rest);
     let maxima = older_maxima(alloc, stat)?;
-    let column = boxed(alloc, leaf(alloc, column)?)?;
-    let zones = older_zones_of(alloc, column.dtype(), &maxima, zones)?;
-    statistics_of(alloc, column, zones, maxima)
-}
-
-fn statistics_of(
-    alloc: Global,
-    column: Box<Layout>,
-    zones: Layout,
-    maxima: Vec<Stat>,
-) -> Result<Layout>
-    requires { IsTrue (are_in_order maxima.items) }
-{
-    let column = Box::into_inner(column);
-    Ok(LegacyStatsLayout::new(alloc, column, zones, 2, maxima)?.into_layout())
+    let column = leaf(alloc, column)?;
+    match older_zones_of(alloc, column.dtype(), &maxima, zones) {
+        Ok(zones) => Ok(LegacyStatsLayout::new(alloc, column, zones, 2, maxima)?.into_layout()),
+        Err(error) => {
+            drop(column);
+            Err(error)
+        }
+    }
 }
 
 fn older_maxima(alloc: Global, word: &str) -> Result<Vec<Stat>>
@@ -173,13 +177,14 @@ fn older_maxima(alloc: Global, word: &str) -> Result<Vec<Stat>>
         maxima.push(Stat::Max)?;
     }
     if !are_in_order(&maxima) {
-        return Err(Error::msg("statistics out of order"));
+        drop(maxima);
+        bail!("statistics out of order");
     }
     Ok(maxima)
 }
 
 fn older_zones_of(alloc: Global, column: &DType, maxima: &[Stat], text: &str) -> Result<Layout> {
-    let (rows, segment) = place(text)?;
+    let (rows, segment) = place(text);
     let encodings = encodings(alloc)?;
     let table = legacy_stats_table_dtype(alloc, column, maxima)?;
     Ok(FlatLayout::new(rows, table, segment, encodings).into_layout())
@@ -195,13 +200,23 @@ fn foreign(alloc: Global, text: &str) -> Result<Layout> {
 
 fn below(alloc: Global, text: &str) -> Result<Vec<Layout>> {
     let mut layouts = Vec::new(alloc);
+    match push_below(alloc, &mut layouts, text) {
+        Ok(()) => Ok(layouts),
+        Err(error) => {
+            drop(layouts);
+            Err(error)
+        }
+    }
+}
+
+fn push_below(alloc: Global, layouts: &mut Vec<Layout>, text: &str) -> Result<()> {
     if text.is_empty() {
-        return Ok(layouts);
+        return Ok(());
     }
     for text in text.split(" / ") {
-        push(&mut layouts, alone(alloc, text)?)?;
+        push(layouts, alone(alloc, text)?)?;
     }
-    Ok(layouts)
+    Ok(())
 }
 
 fn alone(alloc: Global, text: &str) -> Result<Layout> {

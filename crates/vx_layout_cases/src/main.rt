@@ -73,9 +73,7 @@ use std::io;
 fn main(rt: HostRuntime) -> anyhow::Result<()> {
     let alloc = rt.alloc();
     let cases = io::read_to_string(alloc, rt.stdin())?;
-    for line in cases.lines() {
-        let text = case::answers(&rt, alloc, line)?;
-        print!(rt; "{text}")?;
-    }
+    let text = case::answers(&rt, alloc, &cases)?;
+    print!(rt; "{text}")?;
     Ok(())
 }

@@ -4,25 +4,45 @@ use crate::spelling::reread;
 use anyhow::{Result, bail};
 use std::alloc::Global;
 use vx_case_layouts::{NUMBERS, leaf, push};
-use vx_case_lines::{boxed, cut};
+use vx_case_lines::{Answer, cut, number};
 use vx_layout::{ChunkedLayout, Layout, LayoutChildren, LayoutChildrenWalk, layout_children};
 use vx_model::DType;
 
 /// How many rows the first chunks have, of a layout with chunks of one row.
-pub(crate) fn opened(alloc: Global, args: &str) -> Result<String> {
+pub(crate) fn tell_opened(alloc: Global, answer: &mut Answer, args: &str) {
     let (count, asked) = cut(args);
-    let layout = boxed(alloc, chunks(alloc, count.parse::<u64>()?)?)?;
-    let read = boxed(alloc, reread(alloc, &layout)?)?;
-    let rows = rows_below(&read, asked.parse::<u64>()?)?;
-    Ok(format!(in alloc; "{rows}")?)
+    match read_chunks(alloc, number(count)) {
+        Ok(read) => {
+            answer.push_given(rows_below(&read, number(asked)));
+            drop(read);
+        }
+        Err(error) => answer.push(error),
+    }
+}
+
+fn read_chunks(alloc: Global, count: u64) -> Result<Layout> {
+    let layout = chunks(alloc, count)?;
+    let read = reread(alloc, &layout);
+    drop(layout);
+    read
 }
 
 fn chunks(alloc: Global, count: u64) -> Result<Layout> {
     let mut leaves = Vec::new(alloc);
-    for _ in 0..count {
-        push(&mut leaves, leaf(alloc, "u8:1:0")?)?;
+    match push_leaves(alloc, &mut leaves, count) {
+        Ok(()) => Ok(ChunkedLayout::new(count, NUMBERS, layout_children(leaves))?.into_layout()),
+        Err(error) => {
+            drop(leaves);
+            Err(error)
+        }
     }
-    Ok(ChunkedLayout::new(count, NUMBERS, layout_children(leaves))?.into_layout())
+}
+
+fn push_leaves(alloc: Global, leaves: &mut Vec<Layout>, count: u64) -> Result<()> {
+    for _ in 0..count {
+        push(leaves, leaf(alloc, "u8:1:0")?)?;
+    }
+    Ok(())
 }
 
 fn rows_below(layout: &Layout, asked: u64) -> Result<u64> {

@@ -3,36 +3,50 @@
 use anyhow::{Result, bail};
 use std::alloc::Global;
 use vx_case_layouts::leaves;
+use vx_case_lines::Answer;
 use vx_layout::{ChunkedLayout, Layout, LegacyStatsLayout, ListLayout, ZonedLayout};
 
-pub(crate) fn own(alloc: Global, layout: &Layout) -> Result<String> {
+pub(crate) fn tell_own(alloc: Global, answer: &mut Answer, layout: &Layout) {
     match layout {
-        Layout::Struct(fields) => Ok(format!(in alloc; "{}", fields.struct_fields().len())?),
-        Layout::List(list) => of_list(alloc, list),
-        Layout::Dict(dict) => Ok(format!(in alloc; "{}", dict.has_all_values_referenced())?),
-        Layout::Zoned(zoned) => of_zones(alloc, zoned),
-        Layout::LegacyStats(stats) => of_statistics(alloc, stats),
-        Layout::Flat(_) | Layout::Chunked(_) | Layout::Foreign(_) => bail!("nothing of its own"),
+        Layout::Struct(fields) => answer.push(fields.struct_fields().len()),
+        Layout::List(list) => push_list(answer, list),
+        Layout::Dict(dict) => answer.push(dict.has_all_values_referenced()),
+        Layout::Zoned(zoned) => push_zones(answer, zoned),
+        Layout::LegacyStats(stats) => push_statistics(alloc, answer, stats),
+        Layout::Flat(_) | Layout::Chunked(_) | Layout::Foreign(_) => {
+            answer.push_str("nothing of its own");
+        }
     }
 }
 
-fn of_list(alloc: Global, list: &ListLayout) -> Result<String> {
-    let elements = list.elements().row_count();
-    let offsets = list.offsets().row_count();
-    let has_validity = list.validity().is_some();
+fn push_list(answer: &mut Answer, list: &ListLayout) {
+    answer.push(list.elements().row_count());
+    answer.push_str(" ");
+    answer.push(list.offsets().row_count());
+    answer.push_str(" ");
+    answer.push(list.validity().is_some());
     let ptype = list.offsets_ptype();
-    let dtype = list.elements_dtype();
-    Ok(format!(in alloc; "{elements} {offsets} {has_validity} {ptype:?} {dtype}")?)
+    write!(answer, " {ptype:?} {}", list.elements_dtype());
 }
 
-fn of_zones(alloc: Global, zoned: &ZonedLayout) -> Result<String> {
-    let count = zoned.present_aggregates().len();
-    Ok(format!(in alloc; "{} {} {count}", zoned.zone_len(), zoned.nzones())?)
+fn push_zones(answer: &mut Answer, zoned: &ZonedLayout) {
+    answer.push(zoned.zone_len());
+    answer.push_str(" ");
+    answer.push(zoned.nzones());
+    answer.push_str(" ");
+    answer.push(zoned.present_aggregates().len());
 }
 
-fn of_statistics(alloc: Global, stats: &LegacyStatsLayout) -> Result<String> {
-    let count = stats.present_aggregates(alloc)?.len();
-    Ok(format!(in alloc; "{} {count}", stats.nzones())?)
+fn push_statistics(alloc: Global, answer: &mut Answer, stats: &LegacyStatsLayout) {
+    answer.push(stats.nzones());
+    answer.push_str(" ");
+    match stats.present_aggregates(alloc) {
+        Ok(present) => {
+            answer.push(present.len());
+            drop(present);
+        }
+        Err(error) => answer.push(error),
+    }
 }
 
 /// The chunked layout with these leaves instead.

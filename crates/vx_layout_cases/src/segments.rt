@@ -3,18 +3,18 @@
 //! The segments are numbered from the first word on. A segment is cells with commas between them, encoded as `bool` where
 //! the first one is `true`, else as `i8?`; or bytes.
 
-use anyhow::{Error, Result};
+use anyhow::{Result, bail};
 use std::alloc::{AllocError, Global};
 use vx_case_layouts::{FLAGS, MAYBE, bytes_in, encodings, push};
-use vx_case_lines::{boxed, cut};
+use vx_case_lines::{Answer, cut};
 use vx_chunk::Chunk;
 use vx_layout::{Layout, LayoutDisplay, ReadError, SegmentMap, read_rows};
-use vx_model::{Blob, Cell, DType, Value, fits};
+use vx_model::{Blob, Cell, DType, Text, Value, fits};
 use vx_segment_writer::encode_segment;
 
 fn segments(alloc: Global, args: &str) -> Result<SegmentMap> {
     let (first, rest) = cut(args);
-    let first = first.parse::<u32>()?;
+    let first = first.parse::<u32>().unwrap_or(0);
     let mut list = Vec::new(alloc);
     for word in rest.split_whitespace() {
         push(&mut list, segment(alloc, word)?)?;
@@ -26,8 +26,10 @@ fn segment(alloc: Global, word: &str) -> Result<Blob> {
     if word.starts_with('x') {
         return Ok(Blob::from(bytes_in(alloc, word)?));
     }
-    let chunk = boxed(alloc, chunk(alloc, word)?)?;
-    encoded(alloc, &chunk)
+    let chunk = chunk(alloc, word)?;
+    let encoded = encoded(alloc, &chunk);
+    drop(chunk);
+    encoded
 }
 
 fn encoded(alloc: Global, chunk: &Chunk) -> Result<Blob> {
@@ -49,69 +51,87 @@ fn chunk(alloc: Global, word: &str) -> Result<Chunk> {
     let dtype = dtype_of(word);
     if !fits(&dtype, &cells) {
         drop(dtype);
-        return Err(Error::msg("a cell is of another type"));
+        drop(cells);
+        bail!("a cell is of another type");
     }
     Ok(Chunk::plain(dtype, cells))
 }
 
-fn cells(alloc: Global, text: &str) -> Result<Vec<Cell>> {
+fn cells(alloc: Global, text: &str) -> Result<Vec<Cell>, AllocError> {
     let mut cells = Vec::new(alloc);
     for word in text.split(',') {
-        push(&mut cells, cell(word)?)?;
+        cells.push(cell(word))?;
     }
     Ok(cells)
 }
 
-fn cell(word: &str) -> Result<Cell> {
+/// An integer is the one that is left.
+fn cell(word: &str) -> Cell {
     match word {
-        "true" => Ok(Cell::Bool(true)),
-        "false" => Ok(Cell::Bool(false)),
-        "null" => Ok(Cell::Null),
-        _ => Ok(Cell::Int(word.parse::<i128>()?)),
+        "true" => Cell::Bool(true),
+        "false" => Cell::Bool(false),
+        "null" => Cell::Null,
+        _ => Cell::Int(word.parse::<i128>().unwrap_or(0)),
     }
 }
 
-pub(crate) fn rows(alloc: Global, layout: &Layout, args: &str) -> Result<String> {
-    let segments = segments(alloc, args)?;
-    Ok(rows_in(alloc, layout, &segments)?)
+pub(crate) fn tell_rows(alloc: Global, answer: &mut Answer, layout: &Layout, args: &str) {
+    match segments(alloc, args) {
+        Ok(segments) => {
+            push_rows(answer, read_rows(alloc, layout, &segments));
+            drop(segments);
+        }
+        Err(error) => answer.push(error),
+    }
 }
 
 /// The rows, or the fault, as they are printed for a programmer.
-fn rows_in(alloc: Global, layout: &Layout, segments: &SegmentMap) -> Result<String, AllocError> {
-    match read_rows(alloc, layout, segments) {
-        Ok(rows) => shown(alloc, &rows),
-        Err(error) => fault(alloc, boxed(alloc, error)?),
+fn push_rows(answer: &mut Answer, rows: Result<Vec<Value>, ReadError>) {
+    match rows {
+        Ok(rows) => answer.push_debug(rows),
+        Err(error) => {
+            push_fault(answer, &error);
+            drop(error);
+        }
     }
 }
 
-fn shown(alloc: Global, rows: &[Value]) -> Result<String, AllocError> {
-    format!(in alloc; "{rows:?}")
-}
-
-fn fault(alloc: Global, error: Box<ReadError>) -> Result<String, AllocError> {
-    match &*error {
-        ReadError::Foreign(id) => format!(in alloc; "Foreign({})", id.as_str()),
-        error => format!(in alloc; "{error:?}"),
+fn push_fault(answer: &mut Answer, error: &ReadError) {
+    match error {
+        ReadError::Foreign(id) => write!(answer, "Foreign({})", id.as_str()),
+        error => answer.push_debug(error),
     }
 }
 
-pub(crate) fn tree<L: LayoutDisplay>(alloc: Global, layout: &L) -> Result<String> {
-    let text = layout.display_tree(alloc)?;
-    Ok(String::from_str(alloc, text.as_str())?)
+pub(crate) fn tell_tree<L: LayoutDisplay>(alloc: Global, answer: &mut Answer, layout: &L) {
+    match layout.display_tree(alloc) {
+        Ok(text) => {
+            answer.push_str(text.as_str());
+            drop(text);
+        }
+        Err(error) => answer.push(error),
+    }
 }
 
-pub(crate) fn lengths(alloc: Global, layout: &Layout, args: &str) -> Result<String> {
-    let segments = segments(alloc, args)?;
-    Ok(lengths_in(alloc, layout, &segments)?)
+pub(crate) fn tell_lengths(alloc: Global, answer: &mut Answer, layout: &Layout, args: &str) {
+    match segments(alloc, args) {
+        Ok(segments) => {
+            push_lengths(answer, layout.display_tree_with_segments(alloc, &segments));
+            drop(segments);
+        }
+        Err(error) => answer.push(error),
+    }
 }
 
-fn lengths_in<L: LayoutDisplay>(
-    alloc: Global,
-    layout: &L,
-    segments: &SegmentMap,
-) -> Result<String, AllocError> {
-    match layout.display_tree_with_segments(alloc, segments) {
-        Ok(text) => String::from_str(alloc, text.as_str()),
-        Err(error) => fault(alloc, boxed(alloc, error)?),
+fn push_lengths(answer: &mut Answer, text: Result<Text, ReadError>) {
+    match text {
+        Ok(text) => {
+            answer.push_str(text.as_str());
+            drop(text);
+        }
+        Err(error) => {
+            push_fault(answer, &error);
+            drop(error);
+        }
     }
 }

@@ -3,23 +3,32 @@
 use anyhow::Result;
 use std::alloc::{AllocError, Global};
 use vx_case_layouts::{kind_in, scope, session};
-use vx_case_lines::{boxed, cut};
-use vx_layout::{LayoutSession, LayoutSessionExt, Scope};
+use vx_case_lines::{Answer, cut};
+use vx_layout::{LayoutEncoding, LayoutSession, LayoutSessionExt, Scope};
 
-pub(crate) fn known(alloc: Global, id: &str) -> Result<String> {
-    let session = boxed(alloc, session(alloc)?)?;
-    let known = is_known(&*session, id);
-    Ok(format!(in alloc; "{known}")?)
+pub(crate) fn tell_known(alloc: Global, answer: &mut Answer, id: &str) {
+    match session(alloc) {
+        Ok(session) => {
+            answer.push(is_known(&session, id));
+            drop(session);
+        }
+        Err(error) => answer.push(error),
+    }
 }
 
 fn is_known<S: LayoutSessionExt>(session: &S, id: &str) -> bool {
     session.layouts().registry().find(id).is_some()
 }
 
-pub(crate) fn registered(alloc: Global, args: &str) -> Result<String> {
+pub(crate) fn tell_registered(alloc: Global, answer: &mut Answer, args: &str) {
     let (kind, id) = cut(args);
-    let layouts = boxed(alloc, alone(alloc, kind)?)?;
-    Ok(found(alloc, &layouts, id)?)
+    match alone(alloc, kind) {
+        Ok(layouts) => {
+            push_found(answer, layouts.registry().find(id));
+            drop(layouts);
+        }
+        Err(error) => answer.push(error),
+    }
 }
 
 /// The kind is registered, and no other.
@@ -30,24 +39,44 @@ fn alone(alloc: Global, id: &str) -> Result<LayoutSession> {
     Ok(layouts)
 }
 
-fn found(alloc: Global, layouts: &LayoutSession, id: &str) -> Result<String, AllocError> {
-    match layouts.registry().find(id) {
-        Some(found) => format!(in alloc; "{found}"),
-        None => String::from_str(alloc, "nothing"),
+fn push_found(answer: &mut Answer, found: Option<LayoutEncoding>) {
+    match found {
+        Some(found) => answer.push(found),
+        None => answer.push_str("nothing"),
     }
 }
 
-pub(crate) fn copied_scope(alloc: Global, id: &str) -> Result<String> {
-    let scope = boxed(alloc, scope(alloc)?)?;
-    let copy = boxed(alloc, scope.clone()?)?;
-    scope_text(alloc, &copy, id)
+/// Of a copy.
+pub(crate) fn tell_scope(alloc: Global, answer: &mut Answer, id: &str) {
+    match scope(alloc) {
+        Ok(scope) => {
+            tell_copy(answer, scope.clone(), id);
+            drop(scope);
+        }
+        Err(error) => answer.push(error),
+    }
 }
 
-fn scope_text(alloc: Global, copy: &Scope, id: &str) -> Result<String> {
-    let count = copy.ids.ids().len();
-    let place = copy.ids.place(id);
-    let aggregates = copy.context.aggregates.len();
-    let keeps_kinds = copy.allow_unknown;
-    let keeps_aggregates = copy.context.allow_unknown;
-    Ok(format!(in alloc; "{count} {place:?} {aggregates} {keeps_kinds} {keeps_aggregates}")?)
+fn tell_copy(answer: &mut Answer, copy: Result<Scope, AllocError>, id: &str) {
+    match copy {
+        Ok(copy) => {
+            push_scope(answer, &copy, id);
+            drop(copy);
+        }
+        Err(error) => answer.push(error),
+    }
+}
+
+fn push_scope(answer: &mut Answer, scope: &Scope, id: &str) {
+    write!(
+        answer,
+        "{} {:?} ",
+        scope.ids.ids().len(),
+        scope.ids.place(id)
+    );
+    answer.push(scope.context.aggregates.len());
+    answer.push_str(" ");
+    answer.push(scope.allow_unknown);
+    answer.push_str(" ");
+    answer.push(scope.context.allow_unknown);
 }

@@ -1,42 +1,38 @@
 //! What layouts tell of themselves and of their slots.
 
-use anyhow::Result;
 use std::alloc::{AllocError, Global};
+use vx_case_lines::Answer;
 use vx_layout::{Layout, LayoutChildType, LayoutKind, LayoutSlots};
 use vx_model::Text;
 
-pub(crate) fn slots(alloc: Global, layout: &Layout) -> Result<String> {
-    let id = layout.encoding_id();
-    let rows = layout.row_count();
-    let mut out = format!(in alloc; "{id} {rows} {}:", layout.nchildren())?;
+pub(crate) fn tell_slots(alloc: Global, answer: &mut Answer, layout: &Layout) {
+    answer.push_str(layout.encoding_id());
+    answer.push_str(" ");
+    answer.push(layout.row_count());
+    answer.push_str(" ");
+    answer.push(layout.nchildren());
+    answer.push_str(":");
     for slot in 0..layout.nslots() {
-        push_slot(alloc, &mut out, layout, slot)?;
-    }
-    Ok(out)
-}
-
-fn push_slot(
-    alloc: Global,
-    out: &mut String,
-    layout: &Layout,
-    slot: u64,
-) -> Result<(), AllocError> {
-    match layout.slot_type(alloc, slot)? {
-        Some(child) => push_child(alloc, out, &child, layout.slot_to_child(slot)),
-        None => Ok(()),
+        push_slot(alloc, answer, layout, slot);
     }
 }
 
-fn push_child(
-    alloc: Global,
-    out: &mut String,
-    child: &LayoutChildType,
-    place: Option<u64>,
-) -> Result<(), AllocError> {
-    let kind = kind_of(child);
-    let name = child.name(alloc)?;
-    let row = child.row_offset();
-    write!(out, " {kind} {} {row:?} {place:?},", name.as_str())
+fn push_slot(alloc: Global, answer: &mut Answer, layout: &Layout, slot: u64) {
+    match layout.slot_type(alloc, slot) {
+        Ok(Some(child)) => {
+            push_child(alloc, answer, &child, layout.slot_to_child(slot));
+            drop(child);
+        }
+        Ok(None) => {}
+        Err(error) => answer.push(error),
+    }
+}
+
+fn push_child(alloc: Global, answer: &mut Answer, child: &LayoutChildType, place: Option<u64>) {
+    answer.push_str(" ");
+    answer.push_str(kind_of(child));
+    push_name(answer, child.name(alloc));
+    write!(answer, " {:?} {place:?},", child.row_offset());
 }
 
 fn kind_of(child: &LayoutChildType) -> &'static str {
@@ -48,41 +44,53 @@ fn kind_of(child: &LayoutChildType) -> &'static str {
     }
 }
 
-pub(crate) fn names(alloc: Global, layout: &Layout) -> Result<String> {
-    let mut out = String::from_str(alloc, layout.encoding_id())?;
+pub(crate) fn tell_names(alloc: Global, answer: &mut Answer, layout: &Layout) {
+    answer.push_str(layout.encoding_id());
     for name in layout.child_names(alloc) {
-        push_name(&mut out, name)?;
+        push_name(answer, name);
     }
     for row in layout.child_row_offsets() {
-        write!(out, " {row:?}")?;
+        write!(answer, " {row:?}");
     }
     for child in layout.child_types(alloc) {
-        push_kind(&mut out, child)?;
+        push_kind(answer, child);
     }
-    Ok(out)
 }
 
-fn push_name(out: &mut String, name: Result<Text, AllocError>) -> Result<(), AllocError> {
-    out.push_str(" ")?;
-    out.push_str(name?.as_str())
+fn push_name(answer: &mut Answer, name: Result<Text, AllocError>) {
+    answer.push_str(" ");
+    match name {
+        Ok(name) => {
+            answer.push_str(name.as_str());
+            drop(name);
+        }
+        Err(error) => answer.push(error),
+    }
 }
 
-fn push_kind(
-    out: &mut String,
-    child: Result<LayoutChildType, AllocError>,
-) -> Result<(), AllocError> {
-    out.push_str(" ")?;
-    out.push_str(kind_of(&child?))
+fn push_kind(answer: &mut Answer, child: Result<LayoutChildType, AllocError>) {
+    answer.push_str(" ");
+    match child {
+        Ok(child) => {
+            answer.push_str(kind_of(&child));
+            drop(child);
+        }
+        Err(error) => answer.push(error),
+    }
 }
 
-pub(crate) fn as_kinds(alloc: Global, layout: &Layout) -> Result<String> {
-    let taken = taken_as(layout, LayoutKind::Chunked);
-    let is_chunked = layout.as_opt(LayoutKind::Chunked).is_some();
-    let is_flat = layout.as_flat().is_some();
-    let own = layout.segment_ids().len();
-    let whole = layout.is_indivisible();
-    let dtype = layout.dtype();
-    Ok(format!(in alloc; "{taken} {is_chunked} {is_flat} {own} {whole} {dtype}")?)
+pub(crate) fn tell_kinds(answer: &mut Answer, layout: &Layout) {
+    answer.push_str(taken_as(layout, LayoutKind::Chunked));
+    answer.push_str(" ");
+    answer.push(layout.as_opt(LayoutKind::Chunked).is_some());
+    answer.push_str(" ");
+    answer.push(layout.as_flat().is_some());
+    answer.push_str(" ");
+    answer.push(layout.segment_ids().len());
+    answer.push_str(" ");
+    answer.push(layout.is_indivisible());
+    answer.push_str(" ");
+    answer.push(layout.dtype());
 }
 
 /// The id of the layout where it is of the kind.

@@ -1,13 +1,13 @@
 //! Layouts, nodes and metadata as bytes.
 
-use crate::children::with_places;
-use crate::shown::slots;
-use anyhow::{Error, Result, bail};
+use crate::children::tell_places;
+use crate::shown::tell_slots;
+use anyhow::{Result, bail};
 use bytes::Bytes;
 use std::alloc::{AllocError, Global};
 use std::thread::Threads;
 use vx_case_layouts::{bytes_in, encodings, ids, node_in, session};
-use vx_case_lines::{boxed, cut};
+use vx_case_lines::{Answer, cut};
 use vx_layout::{
     DictLayoutMetadata, FlatLayoutMetadata, Layout, LayoutContext, LegacyStatsMetadata, Limits,
     ListLayoutMetadata, RawNode, Session, ZonedMetadata, layout_bytes, layout_from_flatbuffer,
@@ -15,61 +15,92 @@ use vx_layout::{
 };
 use vx_model::{DType, PType};
 
-fn shown(alloc: Global, bytes: &[u8]) -> Result<String, AllocError> {
-    let text = hex::encode(alloc, bytes)?;
-    format!(in alloc; "x{text}")
+fn push_bytes(alloc: Global, answer: &mut Answer, bytes: &[u8]) {
+    answer.push_str("x");
+    answer.push_given(hex::encode(alloc, bytes));
 }
 
-pub(crate) fn again(alloc: Global, layout: &Layout) -> Result<String> {
-    let bytes = spelled(alloc, layout)?;
-    let read = boxed(alloc, parsed(alloc, layout.dtype(), &bytes)?)?;
-    same_as(alloc, &read, &bytes)
+/// Of the words `viewed`, `sent` and `again`: of what is read from the layout's bytes.
+pub(crate) fn tell_viewed(
+    rt: &impl Threads,
+    alloc: Global,
+    answer: &mut Answer,
+    word: &str,
+    layout: &Layout,
+) {
+    match reread(alloc, layout) {
+        Ok(read) => tell_read(rt, alloc, answer, word, layout, read),
+        Err(error) => answer.push(error),
+    }
 }
 
-/// What the children of a chunked layout are that is read from the layout's bytes.
-pub(crate) fn viewed(alloc: Global, layout: &Layout) -> Result<String> {
-    let read = boxed(alloc, reread(alloc, layout)?)?;
-    chunks_of(alloc, &read)
+fn tell_read(
+    rt: &impl Threads,
+    alloc: Global,
+    answer: &mut Answer,
+    word: &str,
+    layout: &Layout,
+    read: Layout,
+) {
+    match word {
+        "again" => push_again(alloc, answer, layout, read),
+        "sent" => push_chunks(answer, through_a_thread(rt, read)),
+        _ => push_chunks(answer, read),
+    }
 }
 
-/// The same, once another thread had the layout that is read.
-pub(crate) fn sent(rt: &impl Threads, alloc: Global, layout: &Layout) -> Result<String> {
-    let back = boxed(alloc, through_a_thread(rt, reread(alloc, layout)?))?;
-    chunks_of(alloc, &back)
+/// The slots of what is read, where it has the layout's bytes.
+fn push_again(alloc: Global, answer: &mut Answer, layout: &Layout, read: Layout) {
+    match have_same_bytes(alloc, layout, &read) {
+        Ok(true) => tell_slots(alloc, answer, &read),
+        Ok(false) => answer.push_str("other bytes"),
+        Err(error) => answer.push(error),
+    }
+    drop(read);
+}
+
+fn have_same_bytes(alloc: Global, one: &Layout, other: &Layout) -> Result<bool> {
+    let bytes = spelled(alloc, one)?;
+    Ok(spelled(alloc, other)?.as_slice() == bytes.as_slice())
 }
 
 /// What is read from the layout's bytes.
 pub(crate) fn reread(alloc: Global, layout: &Layout) -> Result<Layout> {
     let bytes = spelled(alloc, layout)?;
-    parsed(alloc, layout.dtype(), &bytes)
+    let read = parsed(alloc, layout.dtype(), &bytes);
+    drop(bytes);
+    read
 }
 
-fn chunks_of(alloc: Global, layout: &Layout) -> Result<String> {
-    match layout {
-        Layout::Chunked(chunked) => with_places(alloc, chunked.children(), layout.dtype()),
-        _ => bail!("not chunked"),
+/// What the children of a chunked layout are.
+fn push_chunks(answer: &mut Answer, layout: Layout) {
+    match &layout {
+        Layout::Chunked(chunked) => tell_places(answer, chunked.children(), layout.dtype()),
+        _ => answer.push_str("not chunked"),
     }
-}
-
-/// The slots of the layout, where it has these bytes.
-fn same_as(alloc: Global, layout: &Layout, bytes: &[u8]) -> Result<String> {
-    let again = spelled(alloc, layout)?;
-    if again.as_slice() != bytes {
-        return Err(Error::msg("other bytes"));
-    }
-    slots(alloc, layout)
+    drop(layout);
 }
 
 fn spelled(alloc: Global, layout: &Layout) -> Result<Vec<u8>> {
     let ids = ids(alloc)?;
-    Ok(layout_bytes(alloc, layout, &ids)?)
+    let bytes = layout_bytes(alloc, layout, &ids);
+    drop(ids);
+    Ok(bytes?)
 }
 
 /// What the bytes of a layout of the type are, where each kind is registered.
 fn parsed(alloc: Global, dtype: &DType, bytes: &[u8]) -> Result<Layout> {
     let ids = ids(alloc)?;
-    let session = boxed(alloc, session(alloc)?)?;
-    parsed_in(alloc, dtype, bytes, &ids, &session)
+    let parsed = parsed_by(alloc, dtype, bytes, &ids);
+    drop(ids);
+    parsed
+}
+
+fn parsed_by(alloc: Global, dtype: &DType, bytes: &[u8], ids: &LayoutContext) -> Result<Layout> {
+    let session = session(alloc)?;
+    let parsed = parsed_in(alloc, dtype, bytes, ids, &session);
+    drop(session);
+    parsed
 }
 
 fn parsed_in(
@@ -85,39 +116,65 @@ fn parsed_in(
     Ok(layout_from_flatbuffer(alloc, bytes, dtype, ids, &encodings, session, limits)?)
 }
 
-pub(crate) fn node(alloc: Global, word: &str) -> Result<String> {
-    let bytes = node_bytes(alloc, word)?;
-    let mut out = shown(alloc, &bytes)?;
-    push_nodes(alloc, &mut out, bytes)?;
-    Ok(out)
+pub(crate) fn tell_node(alloc: Global, answer: &mut Answer, word: &str) {
+    match node_bytes(alloc, word) {
+        Ok(bytes) => {
+            push_bytes(alloc, answer, &bytes);
+            push_nodes(answer, nodes_of(alloc, bytes));
+        }
+        Err(error) => answer.push(error),
+    }
 }
 
 fn node_bytes(alloc: Global, word: &str) -> Result<Vec<u8>> {
-    let node = boxed(alloc, node_in(alloc, word)?)?;
-    Ok(write_node(alloc, &node)?)
+    let node = node_in(alloc, word)?;
+    let bytes = write_node(alloc, &node);
+    drop(node);
+    Ok(bytes?)
 }
 
-/// What is read from the bytes, in a line of its own.
-fn push_nodes(alloc: Global, out: &mut String, bytes: Vec<u8>) -> Result<()> {
+/// What is read from the bytes.
+fn nodes_of(alloc: Global, bytes: Vec<u8>) -> Result<RawNode> {
     let bytes = Bytes::from_vec(bytes)?;
-    let node = boxed(alloc, read_nodes(alloc, bytes, Limits::default())?)?;
-    Ok(push_node(out, &node)?)
+    Ok(read_nodes(alloc, bytes, Limits::default())?)
 }
 
-fn push_node(out: &mut String, node: &RawNode) -> Result<(), AllocError> {
-    let index = node.index;
-    let rows = node.rows;
+/// The node in a line of its own.
+fn push_nodes(answer: &mut Answer, node: Result<RawNode>) {
+    match node {
+        Ok(node) => {
+            push_node(answer, &node);
+            drop(node);
+        }
+        Err(error) => answer.push(error),
+    }
+}
+
+fn push_node(answer: &mut Answer, node: &RawNode) {
     let segments = node.segments.as_slice();
-    write!(out, "\n{index} {rows} {segments:?} {}", node.children.len())
+    write!(answer, "\n{} {} {segments:?} ", node.index, node.rows);
+    answer.push(node.children.len());
 }
 
-pub(crate) fn metadata(alloc: Global, args: &str) -> Result<String> {
+pub(crate) fn tell_metadata(alloc: Global, answer: &mut Answer, args: &str) {
     let (kind, bytes) = cut(args);
-    let bytes = bytes_in(alloc, bytes)?;
-    Ok(shown(alloc, &serialized(alloc, kind, &bytes)?)?)
+    match serialized(alloc, kind, bytes) {
+        Ok(bytes) => {
+            push_bytes(alloc, answer, &bytes);
+            drop(bytes);
+        }
+        Err(error) => answer.push(error),
+    }
 }
 
-fn serialized(alloc: Global, kind: &str, bytes: &[u8]) -> Result<Vec<u8>> {
+fn serialized(alloc: Global, kind: &str, word: &str) -> Result<Vec<u8>> {
+    let bytes = bytes_in(alloc, word)?;
+    let again = serialized_as(alloc, kind, &bytes);
+    drop(bytes);
+    again
+}
+
+fn serialized_as(alloc: Global, kind: &str, bytes: &[u8]) -> Result<Vec<u8>> {
     match kind {
         "vortex.flat" => Ok(FlatLayoutMetadata::deserialize(alloc, bytes)?.serialize(alloc)?),
         "vortex.dict" => Ok(DictLayoutMetadata::deserialize(alloc, bytes)?.serialize(alloc)?),
@@ -131,21 +188,27 @@ fn serialized(alloc: Global, kind: &str, bytes: &[u8]) -> Result<Vec<u8>> {
 fn zoned(alloc: Global, bytes: &[u8]) -> Result<Vec<u8>> {
     let read = ZonedMetadata::deserialize(alloc, bytes)?;
     if !read.is_short() {
-        return Err(Error::msg("too long"));
+        drop(read);
+        bail!("too long");
     }
     Ok(read.serialize(alloc)?)
 }
 
-pub(crate) fn codes(alloc: Global, word: &str) -> Result<String> {
-    let bytes = DictLayoutMetadata::new(ptype_in(word)?).serialize(alloc)?;
-    Ok(shown(alloc, &bytes)?)
+pub(crate) fn tell_codes(alloc: Global, answer: &mut Answer, word: &str) {
+    match DictLayoutMetadata::new(ptype_in(word)).serialize(alloc) {
+        Ok(bytes) => {
+            push_bytes(alloc, answer, &bytes);
+            drop(bytes);
+        }
+        Err(error) => answer.push(error),
+    }
 }
 
-fn ptype_in(word: &str) -> Result<PType> {
+/// `u32` is the one that is left.
+fn ptype_in(word: &str) -> PType {
     match word {
-        "u8" => Ok(PType::U8),
-        "u16" => Ok(PType::U16),
-        "u32" => Ok(PType::U32),
-        _ => bail!("no codes"),
+        "u8" => PType::U8,
+        "u16" => PType::U16,
+        _ => PType::U32,
     }
 }

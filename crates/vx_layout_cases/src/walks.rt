@@ -4,44 +4,53 @@ ghost use Rattle.std.specs.Iterator.{IsFinite};
 
 use anyhow::{Result, bail};
 use std::alloc::{AllocError, Global};
-use vx_case_lines::boxed;
+use vx_case_lines::Answer;
 use vx_layout::{Layout, LayoutChild, LayoutWalk};
 
 /// A layout by itself that equals what stands in the slot.
-pub(crate) fn in_slot(layout: &Layout, slot: &str) -> Result<Layout> {
-    match layout.slot(slot.parse::<u64>()?)? {
+pub(crate) fn in_slot(layout: &Layout, slot: u64) -> Result<Layout> {
+    match layout.slot(slot)? {
         Some(child) => Ok(child.into_layout()?),
         None => bail!("nothing"),
     }
 }
 
-pub(crate) fn present(alloc: Global, layout: &Layout) -> Result<String> {
-    let count = layout.children(alloc)?.len();
-    Ok(format!(in alloc; "{count}")?)
+pub(crate) fn tell_present(alloc: Global, answer: &mut Answer, layout: &Layout) {
+    match layout.children(alloc) {
+        Ok(children) => {
+            answer.push(children.len());
+            drop(children);
+        }
+        Err(error) => answer.push(error),
+    }
 }
 
-pub(crate) fn walk(alloc: Global, layout: &Layout) -> Result<String> {
-    Ok(ids(alloc, layout.depth_first_traversal(alloc))?)
+pub(crate) fn tell_walk(alloc: Global, answer: &mut Answer, layout: &Layout) {
+    push_ids(answer, layout.depth_first_traversal(alloc));
 }
 
 /// The ids of the nodes.
-fn ids<'a, I: Iterator<Item = Result<LayoutChild<'a>, AllocError>>>(
-    alloc: Global,
+fn push_ids<'a, I: Iterator<Item = Result<LayoutChild<'a>, AllocError>>>(
+    answer: &mut Answer,
     nodes: I,
-) -> Result<String, AllocError>
+)
     requires can { I.can_next nodes }
     requires ends { IsFinite (I.remaining nodes) }
 {
-    let mut ids = String::new(alloc);
+    let mut space = "";
     for node in nodes {
-        push_id(&mut ids, boxed(alloc, node?)?)?;
+        answer.push_str(space);
+        push_id(answer, node);
+        space = " ";
     }
-    Ok(ids)
 }
 
-fn push_id(ids: &mut String, node: Box<LayoutChild<'_>>) -> Result<(), AllocError> {
-    if !ids.is_empty() {
-        ids.push_str(" ")?;
+fn push_id(answer: &mut Answer, node: Result<LayoutChild<'_>, AllocError>) {
+    match node {
+        Ok(node) => {
+            answer.push_str(node.layout().encoding_id());
+            drop(node);
+        }
+        Err(error) => answer.push(error),
     }
-    ids.push_str(node.layout().encoding_id())
 }

@@ -10,9 +10,9 @@ use Rattle.vx_sink.specs.Source.{source_failed}
 use Rattle.vx_sink.specs.declared.source.SourceError.{SourceError}
 use Rattle.vx_sink.specs.declared.source.SourceError.TheVariants as source
 use Rattle.vx_machine_promises.specs.Write.{Answer, unasked, came, over}
-use Rattle.vx_machine_view.specs.State.{Tasks}
+use Rattle.vx_machine_state.specs.State.{Tasks}
 use Rattle.vx_machine_view.specs.Machine.{Phase, reading, giving, closing, finished, may_source, source_step}
-use Rattle.vx_machine_view.specs.Places.{one_if}
+use Rattle.vx_machine_state.specs.Places.{one_if}
 use Rattle.vx_write_answer.specs.Causes.{of_source, of_order}
 use Rattle.vx_write_answer.specs.declared.step.ActionKind.{ActionKind}
 use Rattle.vx_write_answer.specs.declared.step.ActionKind.TheVariants as actions
@@ -20,8 +20,8 @@ use Rattle.vx_write_answer.specs.declared.error.WriteError.{WriteError}
 use Rattle.vx_write_answer.specs.declared.error.WriteError.TheVariants.{SourceFault, SinkFault, CompressFault, BatchType, NotStruct, DuplicateField, ManyChunks, EmptyList, ZoneCut, ForbiddenAggregate, ForbiddenEncoding, TooLarge, OutOfMemory, Stopped}
 use Rattle.vx_machine_nodes.specs.Calls.{reads_action, append_action, call_action, CalledTimes, SinkStops, PressStops}
 use Rattle.vx_machine.specs.Calls.{LeavesFewer, reads_at, SourceStops, SourceTold}
-use Rattle.vx_machine_nodes.specs.Causes.{ActMay}
-use Rattle.vx_machine_nodes.specs.Outcome.{action_of}
+use Rattle.vx_machine_node.specs.Causes.{ActMay}
+use Rattle.vx_machine_node.specs.Outcome.{action_of}
 use Rattle.vx_machine.specs.Source.{SourceMay}
 use Rattle.vx_machine.specs.SourceActs.{SourceActed}
 use Rattle.vx_machine_nodes.proofs.CallSteps.{unasked_by, unasked_self}

@@ -5,13 +5,13 @@ use Rattle.vx_model.specs.ChunkData.{ChunkData}
 use Rattle.vx_plan.specs.PlanData.{Item as Piece}
 use Rattle.vx_write_answer.specs.declared.step.ActionKind.{ActionKind}
 use Rattle.vx_machine_promises.specs.Write.{Answer, unasked, came, over}
-use Rattle.vx_machine_view.specs.State.{Tasks, no_tasks, task_then}
-use Rattle.vx_machine_view.specs.Acts.{give, shut_all}
+use Rattle.vx_machine_state.specs.State.{Tasks, no_tasks, task_then}
+use Rattle.vx_machine_state.specs.Acts.{give, shut_all}
 use Rattle.vx_machine_view.specs.Machine as whole
 use Rattle.vx_machine.specs.SourceActs.{SourceActed}
-use Rattle.vx_machine_tasks.specs.View.{task_row, row}
-use Rattle.vx_machine_tasks.specs.declared.task.Task.{Task, out-Task}
-use Rattle.vx_machine_tasks.proofs.ViewParts.{row_out}
+use Rattle.vx_machine_task.specs.View.{task_row, row}
+use Rattle.vx_machine_task.specs.declared.task.Task.{Task, out-Task}
+use Rattle.vx_machine_task.proofs.ViewParts.{row_out}
 
 -- what is below a task
 abbrev below : Tasks → Tasks

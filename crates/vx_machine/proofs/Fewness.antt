@@ -11,11 +11,11 @@ use Rattle.vx_plan.specs.PlanData.{Setting, Item, Pair, What}
 use Rattle.vx_plan.specs.DictNode.{is_dictionary}
 use Rattle.vx_machine_turns.specs.Grouped.{Grouper, block_grouper, byte_grouper}
 use Rattle.vx_machine_promises.specs.Write.{Answer, unasked, came, over}
-use Rattle.vx_machine_view.specs.Zoned.{Zoner, Zones}
-use Rattle.vx_machine_view.specs.Coder.{Coder}
-use Rattle.vx_machine_view.specs.State.{Next, put, hand_on, press, probe, open_run, end_run, append, shut_kids, join_kids, start_table, leave_kid, Mind, no_chunk, one_chunk, by_chunk, by_column, by_list, by_block, by_size, as_one, by_zone, by_image, as_is, by_probe, asking, by_run, ending, passing, made, Desk, Tasks, no_tasks, task_then}
-use Rattle.vx_machine_view.specs.Acts.{count, column_count, of_length, take_grouped, take_chunk, end_columns, end_lists, end_grouped, end_zones, probed, take_end, do_take, do_act}
-use Rattle.vx_machine_view.specs.Moves.{Step, may_act, own_step, in_kids, in_rest, steps}
+use Rattle.vx_machine_state.specs.Zoned.{Zoner, Zones}
+use Rattle.vx_machine_state.specs.Coder.{Coder}
+use Rattle.vx_machine_state.specs.State.{Next, put, hand_on, press, probe, open_run, end_run, append, shut_kids, join_kids, start_table, leave_kid, Mind, no_chunk, one_chunk, by_chunk, by_column, by_list, by_block, by_size, as_one, by_zone, by_image, as_is, by_probe, asking, by_run, ending, passing, made, Desk, Tasks, no_tasks, task_then}
+use Rattle.vx_machine_state.specs.Acts.{count, column_count, of_length, take_grouped, take_chunk, end_columns, end_lists, end_grouped, end_zones, probed, take_end, do_take, do_act}
+use Rattle.vx_machine_state.specs.Moves.{Step, may_act, own_step, in_kids, in_rest, steps}
 use Rattle.vx_machine_view.specs.Machine.{Phase, reading, giving, closing, finished, Machine, may_source, WholeStep, source_step, in_root, whole_steps}
 use Rattle.vx_machine_runs.proofs.Misfits.{at_place}
 

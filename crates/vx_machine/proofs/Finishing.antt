@@ -3,12 +3,12 @@ use Rattle.std.proofs.Common.{◌≡◌, true, refl, sym}
 use Rattle.std.proofs.lemmas.Bool.{and_parts, true≢false}
 use Rattle.vx_machine_ids.specs.Stock.{none, both}
 use Rattle.vx_machine.specs.Source.{phase_stock}
-use Rattle.vx_machine_tasks.specs.Ready.{is_done}
+use Rattle.vx_machine_task.specs.Ready.{is_done}
 use Rattle.vx_machine.specs.Whole.{machine_stock, machine_reserved, has_closed, is_finished}
 use Rattle.vx_machine.specs.declared.source.Phase.{Phase}
 use Rattle.vx_machine.specs.declared.source.Phase.TheVariants.{Reading, Giving, Closing, Finished}
 use Rattle.vx_machine.specs.declared.machine.Machine.{Machine}
-use Rattle.vx_machine_tasks.proofs.Finishing.{done_none, done_unreserved}
+use Rattle.vx_machine_task.proofs.Finishing.{done_none, done_unreserved}
 
 closed_none : (p : Phase) → has_closed p ≡ true → phase_stock p ≡ none
 closed_none Finished h = refl

@@ -33,7 +33,7 @@ use Rattle.vx_machine_promises.specs.Write.{Write, Future, Open, Answer, unasked
 use Rattle.vx_machine_promises.specs.Reached.{Reached, moves_at, pick_at}
 use Rattle.vx_machine_promises.specs.Promises.{StepIsReached, HistoryIsFirst}
 use Rattle.vx_machine_view.specs.Machine.{Phase, reading, giving, closing, finished, Machine, WholeStep, whole_steps, is_finished, machine_ids}
-use Rattle.vx_machine_view.specs.Reserved.{reserved_by}
+use Rattle.vx_machine_state.specs.Reserved.{reserved_by}
 use Rattle.vx_machine_view.specs.Whole.{SameHeld}
 use Rattle.vx_machine_view.specs.Underway.{Showing, ready_steps}
 use Rattle.vx_machine_view.proofs.Ending.{held_shows}
@@ -49,9 +49,9 @@ use Rattle.vx_machine_runs.proofs.Sounding.{idle_is_finished}
 use Rattle.vx_machine_runs.proofs.Stepping.{open_before, asks_so, evened}
 use Rattle.vx_machine_runs.proofs.Tracing.{same_scripts}
 use Rattle.vx_machine_nodes.specs.Acting.{IsAppended, Behind}
-use Rattle.vx_machine_nodes.specs.Context.{Allowed, setting_of}
-use Rattle.vx_machine_nodes.specs.View.{form_at}
-use Rattle.vx_machine_tasks.specs.Starting.{IsAllowed}
+use Rattle.vx_machine_node.specs.Context.{Allowed, setting_of}
+use Rattle.vx_machine_node.specs.View.{form_at}
+use Rattle.vx_machine_start.specs.Starting.{IsAllowed}
 use Rattle.vx_machine.specs.Progress.{HasCome, Begins, NeverStuck, IsFront, IsLeft, LeadsOn, NextIs, StepsOn}
 use Rattle.vx_machine.specs.Run.{ready_at}
 use Rattle.vx_machine.specs.SourceActs.{AsksAt, Tells}
@@ -60,7 +60,6 @@ use Rattle.vx_machine.specs.Steps.{WholeStepped, StepDone}
 use Rattle.vx_machine.specs.View.{machine_of}
 use Rattle.vx_machine.specs.Whole.{machine_stock, machine_ready}
 use Rattle.vx_machine.specs.declared.machine.Machine.{Machine as Code}
-use Rattle.vx_machine.proofs.BuiltSteps.{all_built}
 use Rattle.vx_machine.proofs.Fewness.{Few, whole_few}
 use Rattle.vx_machine.proofs.RunSteps.{ready_held, done_held}
 
@@ -175,7 +174,7 @@ cut_falls g taken f seen history tracker r m i =
 
 module _ (run : RunByIsUnderway) (g : Write) (first : ℕ) (ns : List Note) (x : Stand) (m : Machine) (h : HasCome g first ns x m) where
   under_way : UnderwayAt g first ns x
-  under_way = run g first ns x h.careful (all_built g.way) h.starts h.picked h.led
+  under_way = run g first ns x h.careful h.starts h.picked h.led
 
   -- something is ready
   ready_there : is_finished m ≡ false → ready_at m ≡ 0 → ⊥

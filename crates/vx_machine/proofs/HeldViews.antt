@@ -15,31 +15,31 @@ use Rattle.vx_machine_ids.specs.Stock.{Stock, held, both, same, one, some_stock}
 use Rattle.vx_machine_ids.specs.Balance.{active_at, Exact, Moved}
 use Rattle.vx_machine_turns.specs.Dict.{rest_eof}
 use Rattle.vx_machine_promises.specs.Write.{Answer}
-use Rattle.vx_machine_view.specs.State.{Tasks, no_tasks}
+use Rattle.vx_machine_state.specs.State.{Tasks, no_tasks}
 use Rattle.vx_machine_view.specs.Machine as whole
 use Rattle.vx_machine_view.proofs.Sounding.{least_agrees}
-use Rattle.vx_machine_nodes.specs.declared.item.Item.{Item}
-use Rattle.vx_machine_nodes.specs.declared.item.Due.{Due}
-use Rattle.vx_machine_nodes.specs.declared.item.Due.TheVariants.{Put, HandOn, Append, Close, Join, Table, Leave, Press, Ask, OpenRun, EndRun}
-use Rattle.vx_machine_nodes.specs.declared.node.Local.{Local}
-use Rattle.vx_machine_nodes.specs.declared.node.Local.TheVariants.{Empty, Full, Chunked, Columns, Lists, Grouped, Over, Passing, Made, Zoned, Pressing, AsIs, Probe, Asking, Runs}
+use Rattle.vx_machine_node.specs.declared.item.Item.{Item}
+use Rattle.vx_machine_node.specs.declared.item.Due.{Due}
+use Rattle.vx_machine_node.specs.declared.item.Due.TheVariants.{Put, HandOn, Append, Close, Join, Table, Leave, Press, Ask, OpenRun, EndRun}
+use Rattle.vx_machine_node.specs.declared.node.Local.{Local}
+use Rattle.vx_machine_node.specs.declared.node.Local.TheVariants.{Empty, Full, Chunked, Columns, Lists, Grouped, Over, Passing, Made, Zoned, Pressing, AsIs, Probe, Asking, Runs}
 use Rattle.vx_machine.specs.declared.source.Phase.{Phase}
 use Rattle.vx_machine.specs.declared.source.Phase.TheVariants.{Reading, Giving, Closing, Finished}
 use Rattle.vx_machine.specs.declared.machine.Machine.{Machine}
-use Rattle.vx_machine_tasks.specs.declared.task.Task.{Task, out-Task}
-use Rattle.vx_machine_tasks.specs.Sizes.{task_count, count_of_all}
+use Rattle.vx_machine_task.specs.declared.task.Task.{Task, out-Task}
+use Rattle.vx_machine_task.specs.Sizes.{task_count, count_of_all}
 use Rattle.vx_machine.specs.Source.{phase_stock}
-use Rattle.vx_machine_nodes.specs.Regrouped.{mind_in}
-use Rattle.vx_machine_nodes.specs.Stocks.{item_stock, items_stock, dues_stock, local_stock}
-use Rattle.vx_machine_tasks.specs.Stocks.{head_stock, task_stock, tasks_stock}
+use Rattle.vx_machine_node.specs.Regrouped.{mind_in}
+use Rattle.vx_machine_node.specs.Stocks.{item_stock, items_stock, dues_stock, local_stock}
+use Rattle.vx_machine_task.specs.Stocks.{head_stock, task_stock, tasks_stock}
 use Rattle.vx_machine.specs.Whole.{machine_stock}
-use Rattle.vx_machine_nodes.specs.RunPaths.{eof_at}
-use Rattle.vx_machine_nodes.specs.View.{items_of, todo_of, mind_of, runs_in}
-use Rattle.vx_machine_tasks.specs.View.{task_row, row}
+use Rattle.vx_machine_node.specs.RunPaths.{eof_at}
+use Rattle.vx_machine_node.specs.View.{items_of, todo_of, mind_of, runs_in}
+use Rattle.vx_machine_task.specs.View.{task_row, row}
 use Rattle.vx_machine.specs.View.{phase_of, machine_of}
 use Rattle.vx_machine_nodes.proofs.RunSteps.{rest_is}
-use Rattle.vx_machine_tasks.proofs.TaskParts.{task_count_out, task_stock_out}
-use Rattle.vx_machine_tasks.proofs.ViewParts.{row_out}
+use Rattle.vx_machine_task.proofs.TaskParts.{task_count_out, task_stock_out}
+use Rattle.vx_machine_task.proofs.ViewParts.{row_out}
 
 -- ---- how often a path is in a list
 

@@ -11,6 +11,5 @@ pub mod HeldViews
 pub mod StepShows
 pub mod RunCalls
 pub mod RunSteps
-pub mod BuiltSteps
 pub mod Fewness
 pub mod Going

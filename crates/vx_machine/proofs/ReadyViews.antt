@@ -3,19 +3,20 @@ use Rattle.std.proofs.Common.{◌≡◌, ℕ, zero, ◌+◌, ◌-◌, ◌<◌, �
 use Rattle.std.specs.FinMap as fin
 use Rattle.vx_sequence.specs.Universe.{Active}
 use Rattle.vx_machine_ids.specs.Stock.{one}
-use Rattle.vx_machine_view.specs.State.{no_tasks}
+use Rattle.vx_machine_state.specs.State.{no_tasks}
 use Rattle.vx_machine_view.specs.Machine as whole
+use Rattle.vx_machine_state.specs.Places as task_places
 use Rattle.vx_machine_view.specs.Places as places
 use Rattle.vx_machine.specs.declared.source.Phase.{Phase}
 use Rattle.vx_machine.specs.declared.source.Phase.TheVariants.{Reading, Giving, Closing, Finished}
 use Rattle.vx_machine.specs.declared.machine.Machine.{Machine}
-use Rattle.vx_machine_tasks.specs.declared.task.Task.{Task}
-use Rattle.vx_machine_tasks.specs.Ready.{ready_in}
+use Rattle.vx_machine_task.specs.declared.task.Task.{Task}
+use Rattle.vx_machine_task.specs.Ready.{ready_in}
 use Rattle.vx_machine.specs.Whole.{may_source, machine_ready, has_closed, is_finished}
-use Rattle.vx_machine_tasks.specs.View.{task_row}
+use Rattle.vx_machine_task.specs.View.{task_row}
 use Rattle.vx_machine.specs.View.{phase_of, machine_of}
-use Rattle.vx_machine_tasks.proofs.Readiness.{one_true}
-use Rattle.vx_machine_tasks.proofs.ReadyViews.{done_view, none_before, one_same, room_view, task_ready}
+use Rattle.vx_machine_task.proofs.Readiness.{one_true}
+use Rattle.vx_machine_task.proofs.ReadyViews.{done_view, none_before, one_same, room_view, task_ready}
 
 -- ---- the whole machine
 
@@ -31,15 +32,15 @@ pub own_source : (p : Phase) (t : Task) (k n : ℕ) → n ≡ one (may_source p 
 own_source p t k n e h =
     (none_before (may_source p t) n k e h, sym (source_view p t) ∙ one_true (may_source p t) k (subst (λ z. k < z) e h))
 
-pub behind_source : (p : Phase) (t : Task) (k n : ℕ) → n ≡ one (may_source p t) → n ≤ k → k ≡ places.one_if (whole.may_source (phase_of p) (task_row t no_tasks)) + (k - n)
+pub behind_source : (p : Phase) (t : Task) (k n : ℕ) → n ≡ one (may_source p t) → n ≤ k → k ≡ task_places.one_if (whole.may_source (phase_of p) (task_row t no_tasks)) + (k - n)
 behind_source p t k n e h =
-    let o : places.one_if (whole.may_source (phase_of p) (task_row t no_tasks)) ≡ one (may_source p t) = ap places.one_if (sym (source_view p t)) ∙ sym (one_same (may_source p t)) in
+    let o : task_places.one_if (whole.may_source (phase_of p) (task_row t no_tasks)) ≡ one (may_source p t) = ap task_places.one_if (sym (source_view p t)) ∙ sym (one_same (may_source p t)) in
     omega (arith, o, e, h)
 
 pub machine_view : (u : Active) (m : Machine) → places.whole_ready (fin.keys u) (machine_of m) ≡ machine_ready u m
 machine_view u m =
-    let o : places.one_if (whole.may_source (phase_of m.phase) (task_row m.root no_tasks)) ≡ one (may_source m.phase m.root) = ap places.one_if (sym (source_view m.phase m.root)) ∙ sym (one_same (may_source m.phase m.root)) in
-    let k : places.ready_in (fin.keys u) (task_row m.root no_tasks) ≡ ready_in u m.root = task_ready u m.root in
+    let o : task_places.one_if (whole.may_source (phase_of m.phase) (task_row m.root no_tasks)) ≡ one (may_source m.phase m.root) = ap task_places.one_if (sym (source_view m.phase m.root)) ∙ sym (one_same (may_source m.phase m.root)) in
+    let k : task_places.ready_in (fin.keys u) (task_row m.root no_tasks) ≡ ready_in u m.root = task_ready u m.root in
     omega (arith, o, k)
 
 -- ---- the end

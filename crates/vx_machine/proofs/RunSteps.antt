@@ -16,14 +16,14 @@ use Rattle.vx_write_answer.specs.declared.step.ActionKind.{ActionKind}
 use Rattle.vx_write_answer.specs.declared.error.WriteError.{WriteError}
 use Rattle.vx_machine_ids.specs.Balance.{Exact}
 use Rattle.vx_machine_promises.specs.Write.{unasked}
-use Rattle.vx_machine_view.specs.Images.{images_of}
+use Rattle.vx_machine_state.specs.Images.{images_of}
 use Rattle.vx_machine_view.specs.Machine as whole
 use Rattle.vx_machine_view.proofs.Placing.{whole_is_ready}
 use Rattle.vx_machine.specs.declared.machine.Machine.{Machine}
 use Rattle.vx_machine.specs.Calls.{reads_at}
-use Rattle.vx_machine_nodes.specs.Context.{setting_of}
-use Rattle.vx_machine_nodes.specs.Ledger.{told_by}
-use Rattle.vx_machine_nodes.proofs.LedgerSteps.{told_listed, told_allowed}
+use Rattle.vx_machine_node.specs.Context.{setting_of}
+use Rattle.vx_machine_node.specs.Ledger.{told_by}
+use Rattle.vx_machine_node.proofs.LedgerSteps.{told_listed, told_allowed}
 use Rattle.vx_machine.specs.Steps.{WholeStepped, StepRefused, StepDone, StepFails}
 use Rattle.vx_machine.specs.Run.{At, at, ready_at, RunStep, Ran, picked_at, tracker_by, Stops}
 use Rattle.vx_machine.specs.View.{phase_of, machine_of}

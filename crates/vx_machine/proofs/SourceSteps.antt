@@ -18,18 +18,18 @@ use Rattle.vx_write_answer.specs.declared.error.WriteError.TheVariants.{SourceFa
 use Rattle.vx_write_answer.specs.Causes.{of_source, of_order}
 use Rattle.vx_plan.specs.PlanData.{Item as Piece}
 use Rattle.vx_machine_promises.specs.Write.{unasked, came, over}
-use Rattle.vx_machine_view.specs.State.{Tasks, no_tasks, task_then}
-use Rattle.vx_machine_view.specs.Acts.{with_item, shut_desk, give, shut_all}
+use Rattle.vx_machine_state.specs.State.{Tasks, no_tasks, task_then}
+use Rattle.vx_machine_state.specs.Acts.{with_item, shut_desk, give, shut_all}
 use Rattle.vx_machine_view.specs.Machine.{Phase, reading, giving, closing, finished}
 use Rattle.vx_machine.specs.declared.source.Phase as held
-use Rattle.vx_machine_tasks.specs.declared.task.Task.{Task, out-Task}
-use Rattle.vx_machine_nodes.specs.Outcome.{Refused, none_past}
+use Rattle.vx_machine_task.specs.declared.task.Task.{Task, out-Task}
+use Rattle.vx_machine_node.specs.Outcome.{Refused, none_past}
 use Rattle.vx_machine.specs.Source.{SourceMay, ReadsNone, NoNumber}
 use Rattle.vx_machine.specs.SourceActs.{IsLate, whole_at, SourceActed, SourceRefused, ReadActed, ReadRefused}
-use Rattle.vx_machine_tasks.specs.View.{desk_of, task_row, row}
+use Rattle.vx_machine_task.specs.View.{desk_of, task_row, row}
 use Rattle.vx_machine.specs.View.{phase_of}
-use Rattle.vx_machine_nodes.proofs.Fitting.{none_fit, one_fits}
-use Rattle.vx_machine_tasks.proofs.ViewParts.{row_out}
+use Rattle.vx_machine_node.proofs.Fitting.{none_fit, one_fits}
+use Rattle.vx_machine_task.proofs.ViewParts.{row_out}
 
 pub no_number : (e : SourceError) → NoNumber (of_source e)
 no_number source.Failed = tt

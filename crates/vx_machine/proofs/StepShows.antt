@@ -10,17 +10,17 @@ use Rattle.vx_write_answer.specs.declared.step.ActionKind.{ActionKind}
 use Rattle.vx_write_answer.specs.declared.error.WriteError.{WriteError}
 use Rattle.vx_write_answer.specs.declared.error.WriteError.TheVariants.{OutOfMemory}
 use Rattle.vx_machine_promises.specs.Write.{Answer, unasked, came, over}
-use Rattle.vx_machine_view.specs.State.{Tasks}
-use Rattle.vx_machine_view.specs.Moves.{Step, steps}
+use Rattle.vx_machine_state.specs.State.{Tasks}
+use Rattle.vx_machine_state.specs.Moves.{Step, steps}
 use Rattle.vx_machine_view.specs.Machine as whole
-use Rattle.vx_machine_view.specs.Places.{one_if}
+use Rattle.vx_machine_state.specs.Places.{one_if}
 use Rattle.vx_machine_view.proofs.Placing.{source_place, root_place}
 use Rattle.vx_machine_nodes.specs.Acting.{Behind}
 use Rattle.vx_machine.specs.Source.{SourceMay}
 use Rattle.vx_machine.specs.SourceActs.{AsksAt, IsElsewhere, TellsNothing, TellsRefused, whole_at, SourceActed, SourceRefused}
 use Rattle.vx_machine_tasks.specs.Steps.{TaskStepped, TaskRefused}
 use Rattle.vx_machine.specs.Steps.{WholeStepped, StepRefused}
-use Rattle.vx_machine_nodes.specs.Outcome.{Refused, none_past}
+use Rattle.vx_machine_node.specs.Outcome.{Refused, none_past}
 use Rattle.vx_machine_nodes.proofs.RefusalSteps.{wider}
 use Rattle.vx_machine.proofs.ActCauses.{source_uncalled}
 

@@ -18,13 +18,13 @@ use Rattle.vx_write_answer.specs.declared.step.Step.{Step}
 use Rattle.vx_machine_steps.specs.Tree.{counts}
 use Rattle.vx_machine_promises.specs.Write.{Write, Future, Open, scripts, planned, before}
 use Rattle.vx_machine_promises.specs.Reached.{Reached}
-use Rattle.vx_machine_view.specs.Images.{Careful}
+use Rattle.vx_machine_state.specs.Images.{Careful}
 use Rattle.vx_machine_view.specs.Machine.{Machine, is_finished, machine_ids}
 use Rattle.vx_machine_view.specs.Underway.{Showing}
 use Rattle.vx_machine_runs.specs.Runs.{Stand, outset, tracked, Done, Led, PickedBy}
 use Rattle.vx_machine_nodes.specs.Acting.{Behind}
-use Rattle.vx_machine_nodes.specs.Context.{Allowed}
-use Rattle.vx_machine_nodes.specs.Outcome.{action_of}
+use Rattle.vx_machine_node.specs.Context.{Allowed}
+use Rattle.vx_machine_node.specs.Outcome.{action_of}
 use Rattle.vx_machine.specs.SourceActs.{Tells}
 
 -- a step shows a note: how many tasks were ready, the place that was picked, the task and its act

@@ -10,12 +10,12 @@ use Rattle.vx_write_answer.specs.declared.step.Step.{Step}
 use Rattle.vx_write_answer.specs.declared.error.WriteError.{WriteError}
 use Rattle.vx_write_answer.specs.declared.error.WriteError.TheVariants.{BatchType, OutOfMemory}
 use Rattle.vx_sink.specs.ContextView.{counted as counted_bytes}
-use Rattle.vx_machine_view.specs.Acts.{layouts_in}
-use Rattle.vx_machine_view.specs.Reserved.{reserved_by}
+use Rattle.vx_machine_state.specs.Acts.{layouts_in}
+use Rattle.vx_machine_state.specs.Reserved.{reserved_by}
 use Rattle.vx_machine_view.specs.Machine.{Machine, is_finished, machine_ids}
 use Rattle.vx_machine_view.specs.Places.{whole_ready}
 use Rattle.vx_machine.specs.Calls.{reads_in, reads_at}
-use Rattle.vx_machine_nodes.specs.Outcome.{Kept}
+use Rattle.vx_machine_node.specs.Outcome.{Kept}
 use Rattle.vx_machine.specs.Steps.{StepDone, StepFails}
 
 -- where it stands: the machine, what the source still tells, and what the order tells of its sink

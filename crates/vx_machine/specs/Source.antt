@@ -9,7 +9,7 @@ use Rattle.vx_write_answer.specs.declared.error.WriteError.{WriteError}
 use Rattle.vx_write_answer.specs.declared.error.WriteError.TheVariants.{SourceFault, SinkFault, CompressFault, BatchType, NotStruct, DuplicateField, ManyChunks, EmptyList, ZoneCut, ForbiddenAggregate, ForbiddenEncoding, TooLarge, OutOfMemory, Stopped}
 use Rattle.vx_machine.specs.declared.source.Phase.{Phase}
 use Rattle.vx_machine.specs.declared.source.Phase.TheVariants.{Reading, Giving, Closing, Finished}
-use Rattle.vx_machine_nodes.specs.Stocks.{item_stock}
+use Rattle.vx_machine_node.specs.Stocks.{item_stock}
 
 abbrev pub phase_stock : Phase → Stock
 phase_stock (Reading e) = end_stock e

@@ -9,9 +9,9 @@ use Rattle.vx_write_answer.specs.declared.step.ActionKind.{ActionKind}
 use Rattle.vx_write_answer.specs.declared.error.WriteError.{WriteError}
 use Rattle.vx_write_answer.specs.declared.error.WriteError.TheVariants.{SourceFault, TooLarge}
 use Rattle.vx_machine_promises.specs.Write.{Answer, unasked, came, over}
-use Rattle.vx_machine_view.specs.State.{Tasks}
+use Rattle.vx_machine_state.specs.State.{Tasks}
 use Rattle.vx_machine_view.specs.Machine.{Phase, reading, giving, closing, finished, Machine, source_step}
-use Rattle.vx_machine_nodes.specs.Outcome.{action_of, AllFit, Refused, none_past}
+use Rattle.vx_machine_node.specs.Outcome.{action_of, AllFit, Refused, none_past}
 use Rattle.vx_machine.specs.Source.{ReadsNone, SourceMay, NoNumber}
 
 -- what it tells, where it is asked: a whole batch of the type, or the end

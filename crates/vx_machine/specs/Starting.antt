@@ -2,7 +2,7 @@
 use Rattle.std.specs.Prelude.{Bool, false, [], ◌∷◌}
 use Rattle.vx_path.specs.Path.{Eof}
 use Rattle.vx_machine_turns.specs.Forms.{Form}
-use Rattle.vx_machine_view.specs.Start.{started_task}
+use Rattle.vx_machine_state.specs.Start.{started_task}
 use Rattle.vx_machine_view.specs.Machine as whole
 
 -- the machine that a form starts, with these pointers

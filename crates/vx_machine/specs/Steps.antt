@@ -11,10 +11,10 @@ use Rattle.vx_write_answer.specs.declared.error.WriteError.{WriteError}
 use Rattle.vx_machine_promises.specs.Write.{Answer}
 use Rattle.vx_machine_view.specs.Machine.{Machine, WholeStep, whole_steps}
 use Rattle.vx_sink.specs.declared.context.LayoutWriterContext.{LayoutWriterContext}
-use Rattle.vx_machine_nodes.specs.Context.{setting_of}
-use Rattle.vx_machine_nodes.specs.Outcome.{action_of, AllFit, Refused}
+use Rattle.vx_machine_node.specs.Context.{setting_of}
+use Rattle.vx_machine_node.specs.Outcome.{action_of, AllFit, Refused}
 use Rattle.vx_machine_nodes.specs.Acting.{Behind}
-use Rattle.vx_machine_tasks.specs.Acting.{CallFails}
+use Rattle.vx_machine_acts.specs.Acting.{CallFails}
 use Rattle.vx_machine.specs.SourceActs.{AsksAt, Tells, TellsRefused}
 
 -- The step at this place was done: what the source told in it, and what it wrote.

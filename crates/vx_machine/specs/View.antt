@@ -1,11 +1,11 @@
 -- The machine in plain data: its source and its root.
-use Rattle.vx_machine_view.specs.State as view
+use Rattle.vx_machine_state.specs.State as view
 use Rattle.vx_machine_view.specs.Machine as whole
 use Rattle.vx_machine.specs.declared.source.Phase.{Phase}
 use Rattle.vx_machine.specs.declared.source.Phase.TheVariants.{Reading, Giving, Closing, Finished}
 use Rattle.vx_machine.specs.declared.machine.Machine.{Machine}
-use Rattle.vx_machine_nodes.specs.View.{item_of}
-use Rattle.vx_machine_tasks.specs.View.{task_row}
+use Rattle.vx_machine_node.specs.View.{item_of}
+use Rattle.vx_machine_task.specs.View.{task_row}
 
 abbrev pub phase_of : Phase → whole.Phase
 phase_of (Reading e) = whole.reading e

@@ -7,11 +7,11 @@ use Rattle.vx_write_answer.specs.declared.error.WriteError.TheVariants.{SourceFa
 use Rattle.vx_machine.specs.declared.source.Phase.{Phase}
 use Rattle.vx_machine.specs.declared.source.Phase.TheVariants.{Reading, Giving, Closing, Finished}
 use Rattle.vx_machine.specs.declared.machine.Machine.{Machine}
-use Rattle.vx_machine_tasks.specs.declared.task.Task.{Task}
-use Rattle.vx_machine_tasks.specs.Ledger.{task_reserved}
-use Rattle.vx_machine_tasks.specs.Stocks.{task_stock}
+use Rattle.vx_machine_task.specs.declared.task.Task.{Task}
+use Rattle.vx_machine_task.specs.Ledger.{task_reserved}
+use Rattle.vx_machine_task.specs.Stocks.{task_stock}
 use Rattle.vx_machine.specs.Source.{phase_stock}
-use Rattle.vx_machine_tasks.specs.Ready.{kid_of, ready_in, is_done}
+use Rattle.vx_machine_task.specs.Ready.{kid_of, ready_in, is_done}
 
 -- all that it holds
 abbrev pub machine_stock : Machine → Stock

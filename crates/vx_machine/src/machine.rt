@@ -8,32 +8,32 @@ ghost use Rattle.vx_kept.specs.Kept.{Fresh, Knows};
 ghost use Rattle.vx_layout_tree.specs.LayoutView.{layout_data};
 ghost use Rattle.vx_machine_ids.specs.Stock.{none, both, end_stock, ok_stock};
 ghost use Rattle.vx_machine_ids.specs.Balance.{Owned, Moved, Exact, IsNone};
-ghost use Rattle.vx_machine_view.specs.State.{no_tasks};
-ghost use Rattle.vx_machine_view.specs.Start.{first_indices};
-ghost use Rattle.vx_machine_view.specs.Acts.{layouts_in};
+ghost use Rattle.vx_machine_state.specs.State.{no_tasks};
+ghost use Rattle.vx_machine_state.specs.Start.{first_indices};
+ghost use Rattle.vx_machine_state.specs.Acts.{layouts_in};
 ghost use Rattle.vx_machine_view.specs.Machine.{is_finished as has_finished};
 ghost use Rattle.vx_machine_view.specs.Places.{whole_ready};
 ghost use Rattle.vx_strategy.specs.StrategyView.{strategy_data};
 ghost use Rattle.vx_sink.specs.ContextView.{is_marked, counted as counted_bytes, allowed_in};
-ghost use Rattle.vx_machine_nodes.specs.Ledger.{Paid, told_by};
+ghost use Rattle.vx_machine_node.specs.Ledger.{Paid, told_by};
 ghost use Rattle.vx_machine_nodes.specs.Calls.{SinkTold, PressTold};
 ghost use Rattle.vx_machine.specs.Calls.{SourceTold, LeavesFewer, reads_at};
-ghost use Rattle.vx_machine_nodes.specs.Causes.{StartMay};
-ghost use Rattle.vx_machine_nodes.specs.Context.{setting_of};
-ghost use Rattle.vx_machine_nodes.specs.Outcome.{Kept};
+ghost use Rattle.vx_machine_node.specs.Causes.{StartMay};
+ghost use Rattle.vx_machine_node.specs.Context.{setting_of};
+ghost use Rattle.vx_machine_node.specs.Outcome.{Kept};
 ghost use Rattle.vx_machine_tasks.specs.Pairs.{task_pairs, AllMay};
-ghost use Rattle.vx_machine_tasks.specs.Ready.{is_done as is_done_task, counted};
+ghost use Rattle.vx_machine_task.specs.Ready.{is_done as is_done_task, counted};
 ghost use Rattle.vx_machine.specs.Source.{SourceMay};
 ghost use Rattle.vx_machine.specs.SourceActs.{SourceActed, SourceRefused};
-ghost use Rattle.vx_machine_tasks.specs.Starting.{IsAllowed, Counted, Started, FormRefused};
+ghost use Rattle.vx_machine_start.specs.Starting.{IsAllowed, Counted, Started, FormRefused};
 ghost use Rattle.vx_machine.specs.Starting.{machine_at};
 ghost use Rattle.vx_machine.specs.Progress.{Begins, NeverStuck, IsFront, StepsOn};
 ghost use Rattle.vx_machine.specs.Steps.{StepDone, StepFails};
-ghost use Rattle.vx_machine_tasks.specs.Stocks.{task_stock};
-ghost use Rattle.vx_machine_nodes.specs.View.{form_of};
-ghost use Rattle.vx_machine_tasks.specs.View.{task_row, row};
+ghost use Rattle.vx_machine_task.specs.Stocks.{task_stock};
+ghost use Rattle.vx_machine_node.specs.View.{form_of};
+ghost use Rattle.vx_machine_task.specs.View.{task_row, row};
 ghost use Rattle.vx_machine.specs.View.{phase_of, machine_of};
-ghost use Rattle.vx_machine_tasks.specs.declared.task.Task.{out-Task};
+ghost use Rattle.vx_machine_task.specs.declared.task.Task.{out-Task};
 ghost use Rattle.vx_machine.specs.Whole.{machine_stock, machine_reserved, machine_ready, may_source as may_act, has_closed as is_closed, is_finished, StepMay};
 
 use crate::source::{Phase, act_source, give_up_phase};
@@ -43,7 +43,9 @@ use std::sync::Arc;
 use vx_kept::Counts;
 use vx_layout_tree::Layout;
 use vx_machine_ids::give_up_pointer;
-use vx_machine_tasks::{Task, one, start_task};
+use vx_machine_start::start_task;
+use vx_machine_task::{Task, one};
+use vx_machine_tasks::step;
 use vx_model::DType;
 use vx_order::Order;
 use vx_path::owned::Path;
@@ -289,10 +291,15 @@ impl Machine {
             };
         }
         let place = picked - own;
-        match self
-            .root
-            .step(self.alloc, ctx, order, compressor, place, counts)
-        {
+        match step(
+            &mut self.root,
+            self.alloc,
+            ctx,
+            order,
+            compressor,
+            place,
+            counts,
+        ) {
             Ok(did) => Ok(Step {
                 ready,
                 picked,

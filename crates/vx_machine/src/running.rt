@@ -9,7 +9,7 @@ ghost use Rattle.vx_machine.specs.Calls.{reads_in, appends_in, calls_in};
 ghost use Rattle.vx_machine.specs.Run.{at, RunDone, RunTold};
 ghost use Rattle.vx_machine.specs.View.{machine_of};
 ghost use Rattle.vx_sink.specs.ContextView.{counted};
-ghost use Rattle.vx_machine_nodes.specs.Ledger.{told_by};
+ghost use Rattle.vx_machine_node.specs.Ledger.{told_by};
 ghost use Rattle.vx_machine.specs.Whole.{machine_stock, machine_reserved, StepMay};
 
 use crate::machine::Machine;

@@ -6,7 +6,7 @@ use Rattle.vx_order_answer.specs.declared.errors.OrderError.TheVariants as order
 use Rattle.vx_write_answer.specs.Causes.{of_order}
 use Rattle.vx_write_answer.specs.declared.error.WriteError.{WriteError}
 use Rattle.vx_write_answer.specs.declared.error.WriteError.TheVariants.{SourceFault, SinkFault, CompressFault, BatchType, NotStruct, DuplicateField, ManyChunks, EmptyList, ZoneCut, ForbiddenAggregate, ForbiddenEncoding, TooLarge, OutOfMemory, Stopped}
-use Rattle.vx_machine_nodes.specs.Causes.{MayCome, AppendMay, PressMay, ActMay}
+use Rattle.vx_machine_node.specs.Causes.{MayCome, AppendMay, PressMay, ActMay}
 
 -- what may come of an act that asks no sink may come of an append
 pub append_may : (e : WriteError) → MayCome e → AppendMay e

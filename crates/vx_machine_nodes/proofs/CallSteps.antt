@@ -11,7 +11,7 @@ use Rattle.vx_write_answer.specs.declared.step.ActionKind.{ActionKind}
 use Rattle.vx_write_answer.specs.declared.error.WriteError.{WriteError}
 use Rattle.vx_write_answer.specs.declared.error.WriteError.TheVariants.{SourceFault, SinkFault, CompressFault, BatchType, NotStruct, DuplicateField, ManyChunks, EmptyList, ZoneCut, ForbiddenAggregate, ForbiddenEncoding, TooLarge, OutOfMemory, Stopped}
 use Rattle.vx_machine_nodes.specs.Calls.{reads_action, append_action, call_action, CalledTimes, SinkStops, TaskTold, PressStops, PressTold}
-use Rattle.vx_machine_nodes.specs.Causes.{MayCome, AppendMay, PressMay}
+use Rattle.vx_machine_node.specs.Causes.{MayCome, AppendMay, PressMay}
 
 -- ---- of the sink
 

@@ -14,15 +14,15 @@ use Rattle.vx_regroup.specs.Rules.{tested_at, weights, row_count}
 use Rattle.vx_regroup.specs.Regrouping.{Takes, given_by, after, numbers_at}
 use Rattle.vx_regroup.specs.declared.regroup.Regroup.{Regroup}
 use Rattle.vx_regroup.specs.declared.regroup.Regroup.TheVariants.{Repartition, Buffered, Collect}
-use Rattle.vx_machine_view.specs.State.{Next, hand_on}
-use Rattle.vx_machine_view.specs.Acts.{hand_all}
-use Rattle.vx_machine_nodes.specs.declared.item.Item.{Item}
-use Rattle.vx_machine_nodes.specs.Outcome.{AllFit}
-use Rattle.vx_machine_nodes.specs.Regrouped.{is_of, misfits, is_collection, sizes_of, chunks_held, sizes_in, rows_counted, numbers_of, Left, rest_hands, RestFits}
-use Rattle.vx_machine_nodes.specs.Sizes.{sum_of}
-use Rattle.vx_machine_nodes.proofs.Fitting.{none_fit, then_fit, one_fits}
+use Rattle.vx_machine_state.specs.State.{Next, hand_on}
+use Rattle.vx_machine_state.specs.Acts.{hand_all}
+use Rattle.vx_machine_node.specs.declared.item.Item.{Item}
+use Rattle.vx_machine_node.specs.Outcome.{AllFit}
+use Rattle.vx_machine_node.specs.Regrouped.{is_of, misfits, is_collection, sizes_of, chunks_held, sizes_in, rows_counted, numbers_of, Left, rest_hands, RestFits}
+use Rattle.vx_machine_node.specs.Sizes.{sum_of}
+use Rattle.vx_machine_node.proofs.Fitting.{none_fit, then_fit, one_fits}
 use Rattle.vx_machine_nodes.proofs.GroupNumbers.{past_none, fit_none, none_refuses}
-use Rattle.vx_machine_nodes.proofs.GroupSizes.{held_sum, held_push, sizes_apart}
+use Rattle.vx_machine_node.proofs.GroupSizes.{held_sum, held_push, sizes_apart}
 use Rattle.vx_machine_nodes.proofs.SplitSteps.{misfit_told}
 
 -- ---- what the rule may be given

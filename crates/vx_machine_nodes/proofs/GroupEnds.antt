@@ -4,12 +4,12 @@ use Rattle.vx_regroup.specs.Regrouping.{given_by}
 use Rattle.vx_regroup.specs.declared.regroup.Regroup.{Regroup}
 use Rattle.vx_regroup.specs.declared.regroup.Regroup.TheVariants.{Repartition, Buffered, Collect}
 use Rattle.vx_plan.specs.PlanData.{Setting}
-use Rattle.vx_machine_view.specs.State.{passing, shut_kids, Next, Tasks}
-use Rattle.vx_machine_view.specs.Acts.{take_end}
-use Rattle.vx_machine_nodes.specs.declared.item.Item.{Item}
+use Rattle.vx_machine_state.specs.State.{passing, shut_kids, Next, Tasks}
+use Rattle.vx_machine_state.specs.Acts.{take_end}
+use Rattle.vx_machine_node.specs.declared.item.Item.{Item}
 use Rattle.vx_machine_nodes.specs.Acting.{bare, Ended}
-use Rattle.vx_machine_nodes.specs.Regrouped.{numbers_of, mind_in, rest_hands, RestFits}
-use Rattle.vx_machine_nodes.proofs.Fitting.{none_fit, one_fits, both_fit}
+use Rattle.vx_machine_node.specs.Regrouped.{numbers_of, mind_in, rest_hands, RestFits}
+use Rattle.vx_machine_node.proofs.Fitting.{none_fit, one_fits, both_fit}
 
 -- ---- the end
 

@@ -3,17 +3,17 @@ use Rattle.std.proofs.Common.{◌≡◌, ℕ, suc, ◌+◌, List, [], ◌∷◌,
 use Rattle.vx_path.specs.Path.{under}
 use Rattle.vx_model.specs.ChunkData.{ChunkData}
 use Rattle.vx_rules.specs.Regroup.{ranked}
-use Rattle.vx_machine_view.specs.State.{Next, hand_on}
-use Rattle.vx_machine_view.specs.Acts.{hand_all}
+use Rattle.vx_machine_state.specs.State.{Next, hand_on}
+use Rattle.vx_machine_state.specs.Acts.{hand_all}
 use Rattle.vx_order.specs.Ids.{children}
-use Rattle.vx_machine_nodes.specs.declared.item.Due.{Due}
-use Rattle.vx_machine_nodes.specs.declared.item.Due.TheVariants.{HandOn}
-use Rattle.vx_machine_nodes.specs.declared.item.Item.{Item}
-use Rattle.vx_machine_nodes.specs.Ledger.{some_bytes, dues_reserved}
-use Rattle.vx_machine_nodes.specs.Sizes.{sum_of}
-use Rattle.vx_machine_nodes.specs.View.{todo_of}
-use Rattle.vx_machine_nodes.proofs.GroupSizes.{sum_is}
-use Rattle.vx_machine_nodes.proofs.ListParts.{none_is}
+use Rattle.vx_machine_node.specs.declared.item.Due.{Due}
+use Rattle.vx_machine_node.specs.declared.item.Due.TheVariants.{HandOn}
+use Rattle.vx_machine_node.specs.declared.item.Item.{Item}
+use Rattle.vx_machine_node.specs.Ledger.{some_bytes, dues_reserved}
+use Rattle.vx_machine_node.specs.Sizes.{sum_of}
+use Rattle.vx_machine_node.specs.View.{todo_of}
+use Rattle.vx_machine_node.proofs.GroupSizes.{sum_is}
+use Rattle.vx_machine_node.proofs.ListParts.{none_is}
 use Rattle.vx_machine_nodes.proofs.PutSteps.{same_last, last_child}
 
 hands_push : (w : ChunkData → ℕ) (k : ℕ) (p : List ℕ) (xs : List ChunkData) (x : ChunkData) (ts : List Next) (n : ℕ) → k + length xs ≡ n

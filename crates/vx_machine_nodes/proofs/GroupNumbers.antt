@@ -10,9 +10,9 @@ use Rattle.vx_chunk.specs.declared.error.ChunkError.TheVariants as chunk
 use Rattle.vx_regroup.specs.Refusals.{first_past, IsTold, Refuses}
 use Rattle.vx_write_answer.specs.declared.error.WriteError.TheVariants.{TooLarge}
 use Rattle.vx_machine_nodes.specs.Acting.{ListRefused}
-use Rattle.vx_machine_nodes.specs.Causes.{MayCome}
-use Rattle.vx_machine_nodes.specs.Outcome.{AllFit}
-use Rattle.vx_machine_nodes.proofs.Fitting.{none_fit, then_fit}
+use Rattle.vx_machine_node.specs.Causes.{MayCome}
+use Rattle.vx_machine_node.specs.Outcome.{AllFit}
+use Rattle.vx_machine_node.proofs.Fitting.{none_fit, then_fit}
 
 fits_below : (n : ℕ) → nat_lt n (2 ^ 64) ≡ true → n < 2 ^ 64
 fits_below n h = grind (arith, nat_tests)

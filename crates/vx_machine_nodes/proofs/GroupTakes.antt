@@ -8,14 +8,14 @@ use Rattle.vx_plan.specs.PlanData.{Setting}
 use Rattle.vx_regroup.specs.Regrouping.{given_by, after}
 use Rattle.vx_regroup.specs.declared.regroup.Regroup.{Regroup}
 use Rattle.vx_regroup.specs.declared.regroup.Regroup.TheVariants.{Repartition, Buffered, Collect}
-use Rattle.vx_machine_view.specs.State.{as_one, Next, Tasks}
-use Rattle.vx_machine_nodes.specs.declared.item.Item.{Item}
+use Rattle.vx_machine_state.specs.State.{as_one, Next, Tasks}
+use Rattle.vx_machine_node.specs.declared.item.Item.{Item}
 use Rattle.vx_machine_nodes.specs.Acting.{taken, Took}
-use Rattle.vx_machine_nodes.specs.Regrouped.{is_of, misfits, misfit_in, reserved_of, sizes_of, chunks_held, sizes_in, is_idle, are_none, rows_counted, Weighs, numbers_of, handed, mind_in, ActedOn}
-use Rattle.vx_machine_nodes.specs.Sizes.{sum_of}
-use Rattle.vx_machine_nodes.specs.View.{item_of}
-use Rattle.vx_machine_nodes.proofs.Fitting.{then_fit, one_fits, both_fit}
-use Rattle.vx_machine_nodes.proofs.GroupSizes.{held_push, rows_more}
+use Rattle.vx_machine_node.specs.Regrouped.{is_of, misfits, misfit_in, reserved_of, sizes_of, chunks_held, sizes_in, is_idle, are_none, rows_counted, Weighs, numbers_of, handed, mind_in, ActedOn}
+use Rattle.vx_machine_node.specs.Sizes.{sum_of}
+use Rattle.vx_machine_node.specs.View.{item_of}
+use Rattle.vx_machine_node.proofs.Fitting.{then_fit, one_fits, both_fit}
+use Rattle.vx_machine_node.proofs.GroupSizes.{held_push, rows_more}
 
 pub none_held : (cs : List ChunkData) → are_none cs ≡ true → cs ≡ []
 none_held [] h = refl

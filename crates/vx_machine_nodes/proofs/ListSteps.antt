@@ -7,7 +7,7 @@ use Rattle.vx_write_answer.specs.Causes.{of_split}
 use Rattle.vx_write_answer.specs.declared.error.WriteError.{WriteError}
 use Rattle.vx_write_answer.specs.declared.error.WriteError.TheVariants.{TooLarge}
 use Rattle.vx_machine_nodes.specs.Acting.{ListRefused}
-use Rattle.vx_machine_nodes.specs.Causes.{MayCome}
+use Rattle.vx_machine_node.specs.Causes.{MayCome}
 
 -- below the greatest number it is the elements' own
 pub past_elements : (n m : ℕ) (e : SplitError) → e ≡ split.TooLarge m → (m ≡ 2 ^ 128 - 1 → ⊥) → IsPast n e → ListRefused false (n ∷ []) (TooLarge m)

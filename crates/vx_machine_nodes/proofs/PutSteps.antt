@@ -3,12 +3,12 @@ use Rattle.std.proofs.Common.{◌≡◌, ◌+◌, ℕ, zero, suc, List, [], ◌�
 use Rattle.vx_path.specs.Path.{under}
 use Rattle.vx_model.specs.ChunkData.{ChunkData}
 use Rattle.vx_order.specs.Ids.{children}
-use Rattle.vx_machine_view.specs.State.{Next, put}
-use Rattle.vx_machine_view.specs.Acts.{puts}
-use Rattle.vx_machine_nodes.specs.declared.item.Due.{Due}
-use Rattle.vx_machine_nodes.specs.declared.item.Due.TheVariants.{Put}
-use Rattle.vx_machine_nodes.specs.View.{todo_of}
-use Rattle.vx_machine_nodes.proofs.ListParts.{none_is}
+use Rattle.vx_machine_state.specs.State.{Next, put}
+use Rattle.vx_machine_state.specs.Acts.{puts}
+use Rattle.vx_machine_node.specs.declared.item.Due.{Due}
+use Rattle.vx_machine_node.specs.declared.item.Due.TheVariants.{Put}
+use Rattle.vx_machine_node.specs.View.{todo_of}
+use Rattle.vx_machine_node.proofs.ListParts.{none_is}
 
 -- a list with a last element, in two ways
 pub same_last : {A : Type 0} (xs ys : List A) (x y : A) → xs ++ (x ∷ []) ≡ ys ++ (y ∷ []) → (xs ≡ ys) × (x ≡ y)

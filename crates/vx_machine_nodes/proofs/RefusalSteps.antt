@@ -9,10 +9,10 @@ use Rattle.vx_write_answer.specs.declared.error.WriteError.{WriteError}
 use Rattle.vx_write_answer.specs.declared.error.WriteError.TheVariants.{SourceFault, SinkFault, CompressFault, BatchType, NotStruct, DuplicateField, ManyChunks, EmptyList, ZoneCut, ForbiddenAggregate, ForbiddenEncoding, TooLarge, OutOfMemory, Stopped}
 use Rattle.vx_order.specs.Outlet.{Outlet}
 use Rattle.vx_order.specs.Answers.{IsPast, IsShared}
-use Rattle.vx_machine_view.specs.Acts.{Did}
+use Rattle.vx_machine_state.specs.Acts.{Did}
 use Rattle.vx_machine_nodes.specs.Acting.{ActRefused, ActStopped, TakeRefused, TakeStopped, JoinRefused, SplitRefused, ListRefused}
-use Rattle.vx_machine_nodes.specs.Causes.{MayCome}
-use Rattle.vx_machine_nodes.specs.Outcome.{Past, Refused, none_past}
+use Rattle.vx_machine_node.specs.Causes.{MayCome}
+use Rattle.vx_machine_node.specs.Outcome.{Past, Refused, none_past}
 
 -- where this is appended, and so many rows are joined
 module _ (w : List Pair) (hs : List ℕ) (r q : Option What) (b c : Bool) (ns ms is js : List ℕ) (past late : ℕ → Type 0) (stopped halted : Type 0)
@@ -58,9 +58,6 @@ by_split b rows is = wider [] [] None None b b (rows ∷ []) (rows ∷ []) [] is
 -- by its rows alone
 pub by_rows : (q : Option What) (c : Bool) (rows : ℕ) (is : List ℕ) (e : WriteError) → SplitRefused false rows e → Refused q c (rows ∷ []) is [] none_past ⊥ [] e
 by_rows q c rows is = wider [] [] None q false c (rows ∷ []) (rows ∷ []) [] is none_past none_past ⊥ ⊥ (no_word q) (λ h. absurd (true≢false (sym h))) (λ n h. h) (not_in is) (λ n h. h) (λ h. h)
-
-pub rows_large : (b : Bool) (rows n : ℕ) → n ≡ rows → 2 ^ 64 ≤ n → SplitRefused b rows (TooLarge n)
-rows_large b rows n e h = inl (inl (inl e, h))
 
 -- by one of the numbers of lists
 pub by_one : (n : ℕ) (ns : List ℕ) (e : WriteError) → In n ns → SplitRefused false n e → ListRefused false ns e

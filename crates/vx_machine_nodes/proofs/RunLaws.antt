@@ -14,8 +14,8 @@ use Rattle.vx_react.specs.Reactor.{Output}
 use Rattle.vx_react.specs.Cutter.{next_number, closed_outputs, open_outputs, cut_outputs}
 use Rattle.vx_machine_turns.specs.Locals.{RunsSoFar}
 use Rattle.vx_machine_turns.specs.Dict.{Stretch, base_after, eof_after, ended_rows, open_rows, rest_eof}
-use Rattle.vx_machine_view.specs.Coder.{Coder}
-use Rattle.vx_machine_view.specs.Coding.{cut_deeds, ended_deeds, deed_nexts}
+use Rattle.vx_machine_state.specs.Coder.{Coder}
+use Rattle.vx_machine_state.specs.Coding.{cut_deeds, ended_deeds, deed_nexts}
 use Rattle.vx_machine_nodes.specs.Runs.{behind, next_at, may_follow, is_codes, rows_of, behind_all, nexts_at, are_runs, all_rows}
 
 -- ---- rows

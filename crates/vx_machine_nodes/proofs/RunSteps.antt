@@ -22,22 +22,22 @@ use Rattle.vx_react.specs.Reactor.{Output}
 use Rattle.vx_machine_turns.specs.Locals.{RunsSoFar as SoFar}
 use Rattle.vx_machine_turns.specs.Dict.{rest_eof}
 use Rattle.vx_plan.specs.PlanData.{Item as Piece}
-use Rattle.vx_machine_view.specs.Coder.{Coder}
-use Rattle.vx_machine_view.specs.Coding.{puts_codes, deed_next}
-use Rattle.vx_machine_view.specs.State.{Next, put, open_run}
+use Rattle.vx_machine_state.specs.Coder.{Coder}
+use Rattle.vx_machine_state.specs.Coding.{puts_codes, deed_next}
+use Rattle.vx_machine_state.specs.State.{Next, put, open_run}
 use Rattle.vx_write_answer.specs.Causes.{of_order}
 use Rattle.vx_write_answer.specs.declared.error.WriteError.{WriteError}
 use Rattle.vx_write_answer.specs.declared.error.WriteError.TheVariants.{SourceFault, SinkFault, CompressFault, BatchType, NotStruct, DuplicateField, ManyChunks, EmptyList, ZoneCut, ForbiddenAggregate, ForbiddenEncoding, TooLarge, OutOfMemory, Stopped}
-use Rattle.vx_machine_nodes.specs.declared.dict_node.RunsSoFar.{RunsSoFar}
-use Rattle.vx_machine_nodes.specs.declared.item.Due.{Due}
-use Rattle.vx_machine_nodes.specs.Causes.{MayCome}
-use Rattle.vx_machine_nodes.specs.RunPaths.{eof_at, begun_paths, run_eof}
+use Rattle.vx_machine_node.specs.declared.dict_node.RunsSoFar.{RunsSoFar}
+use Rattle.vx_machine_node.specs.declared.item.Due.{Due}
+use Rattle.vx_machine_node.specs.Causes.{MayCome}
+use Rattle.vx_machine_node.specs.RunPaths.{eof_at, begun_paths, run_eof}
 use Rattle.vx_machine_nodes.specs.Runs.{behind, behind_all, next_at, nexts_at, may_follow, is_codes, rows_of, are_runs, all_rows, CutRefused}
-use Rattle.vx_machine_nodes.specs.Ledger.{due_reserved, dues_reserved}
-use Rattle.vx_machine_nodes.specs.Stocks.{due_stock, dues_stock}
-use Rattle.vx_machine_nodes.specs.View.{runs_in, next_of, todo_of}
-use Rattle.vx_machine_nodes.proofs.DueSteps.{one_more}
-use Rattle.vx_machine_nodes.proofs.ReservedSteps.{dues_push}
+use Rattle.vx_machine_node.specs.Ledger.{due_reserved, dues_reserved}
+use Rattle.vx_machine_node.specs.Stocks.{due_stock, dues_stock}
+use Rattle.vx_machine_node.specs.View.{runs_in, next_of, todo_of}
+use Rattle.vx_machine_node.proofs.DueSteps.{one_more}
+use Rattle.vx_machine_node.proofs.ReservedSteps.{dues_push}
 use Rattle.vx_machine_nodes.proofs.RunLaws.{begun_is, rows_behind, all_later}
 
 -- ---- paths
@@ -107,21 +107,7 @@ full_below last eof below order.SinkFault h l = absurd h
 full_below last eof below order.OutOfMemory h l = tt
 full_below last eof below (order.Stopped by name) h l = absurd h
 
-pub full_may : (last : ℕ) (e : OrderError) → FullAt last e → MayCome (of_order e)
-full_may last (order.TooLarge n) h = omega (arith, h.0)
-full_may last order.SinkFault h = absurd h
-full_may last order.OutOfMemory h = tt
-full_may last (order.Stopped by name) h = absurd h
-
 -- ---- codes
-
--- of the run that goes on
-pub went_on : (old new : RunsSoFar) (c : ChunkData) (k : ℕ) (ds : List CellData) → old.begun ≡ true → new.pointer ≡ old.pointer → new.begun ≡ old.begun → new.rows ≡ old.rows + length (cells c) → new.ended.items ≡ old.ended.items
-    → runs_in new ds ≡ behind (runs_in old ds) (Codes k) c
-went_on old new c k ds h p b r e = λ j. record { base = 2 * length (e j); eof = run_eof (p j) (b j); begun = (b ∙ h) j; distinct = ds; rows = r j; ended = e j }
-
-pub put_is : (n : Coder) (r : RunsSoFar) (ds : List CellData) (k : ℕ) (i : Piece) → r.begun ≡ true → next_at n (runs_in r ds) (Codes k) i ≡ put (2 * length r.ended.items) i
-put_is n r ds k i h = ap (λ b. deed_next n (puts_codes (2 * length r.ended.items) (run_eof r.pointer b) b i)) h
 
 -- the first ones of a run
 pub began : (old new : RunsSoFar) (c : ChunkData) (k : ℕ) (ds : List CellData) → old.begun ≡ false → new.pointer ≡ next (next old.pointer) → new.begun ≡ true → new.rows ≡ old.rows + length (cells c) → new.ended.items ≡ old.ended.items
@@ -140,15 +126,6 @@ began_eof r k c h =
     omega (arith, q)
 
 -- ---- values
-
-pub ended_run : (old new : RunsSoFar) (c : ChunkData) (k : ℕ) (ds : List CellData) → old.begun ≡ true → new.pointer ≡ old.pointer → new.begun ≡ false → new.rows ≡ 0 → new.ended.items ≡ old.ended.items ++ (old.rows ∷ [])
-    → runs_in new ds ≡ behind (runs_in old ds) (Values k) c
-ended_run old new c k ds h p b r e =
-    let l : length (old.ended.items ++ (old.rows ∷ [])) ≡ length old.ended.items + 1 = length-append old.ended.items (old.rows ∷ []) in
-    let n : 2 * length new.ended.items ≡ suc (suc (2 * length old.ended.items)) = omega (arith, ap length e, l) in
-    let two : 2 ≤ old.pointer.last = (let w : 2 * length old.ended.items + 2 ≤ old.pointer.last = subst (λ z. 2 * length old.ended.items + begun_paths z ≤ old.pointer.last) h old.behind in omega (arith, w)) in
-    let q : run_eof new.pointer new.begun ≡ next (next (run_eof old.pointer old.begun)) = (λ j. run_eof (p j) (b j)) ∙ sym (two_on old.pointer two) ∙ ap (λ z. next (next (run_eof old.pointer z))) (sym h) in
-    λ j. record { base = n j; eof = q j; begun = b j; distinct = ds; rows = r j; ended = e j }
 
 -- ---- what is to be done
 

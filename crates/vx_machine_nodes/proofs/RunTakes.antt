@@ -20,23 +20,23 @@ use Rattle.vx_machine_ids.proofs.Stocks.{both_assoc, both_swap}
 use Rattle.vx_machine_ids.proofs.MoveLaws.{moved_beside, moved_as, moved_then, owned_now}
 use Rattle.vx_machine_turns.specs.Locals.{RunsSoFar as SoFar}
 use Rattle.vx_machine_turns.specs.Dict.{Stretch, eof_after, ended_rows, open_rows, rest_eof}
-use Rattle.vx_machine_view.specs.Coding.{runs_after, cut_of, cut_indices, run_rows, deed_nexts, deeds_at, last_deeds}
-use Rattle.vx_machine_view.specs.State.{Next, Tasks, by_run, join_kids, fold_runs}
+use Rattle.vx_machine_state.specs.Coding.{runs_after, cut_of, cut_indices, run_rows, deed_nexts, deeds_at, last_deeds}
+use Rattle.vx_machine_state.specs.State.{Next, Tasks, by_run, join_kids, fold_runs}
 use Rattle.vx_write_answer.specs.declared.error.WriteError.{WriteError}
-use Rattle.vx_machine_nodes.specs.declared.dict_node.DictNode.{DictNode}
-use Rattle.vx_machine_nodes.specs.declared.dict_node.DictRuns.{DictRuns}
-use Rattle.vx_machine_nodes.specs.declared.dict_node.RunsSoFar.{RunsSoFar}
-use Rattle.vx_machine_nodes.specs.declared.item.Due.{Due}
-use Rattle.vx_machine_nodes.specs.declared.item.Item.{Item}
-use Rattle.vx_machine_nodes.specs.declared.node.Local.TheVariants.{Runs, Over}
+use Rattle.vx_machine_node.specs.declared.dict_node.DictNode.{DictNode}
+use Rattle.vx_machine_node.specs.declared.dict_node.DictRuns.{DictRuns}
+use Rattle.vx_machine_node.specs.declared.dict_node.RunsSoFar.{RunsSoFar}
+use Rattle.vx_machine_node.specs.declared.item.Due.{Due}
+use Rattle.vx_machine_node.specs.declared.item.Item.{Item}
+use Rattle.vx_machine_node.specs.declared.node.Local.TheVariants.{Runs, Over}
 use Rattle.vx_machine_nodes.specs.Acting.{taken, Took, TakeRefused, SplitRefused, EndTaken, EndRefused}
-use Rattle.vx_machine_nodes.specs.Outcome.{Refused, none_past}
-use Rattle.vx_machine_nodes.specs.RunPaths.{begun_paths, run_eof}
+use Rattle.vx_machine_node.specs.Outcome.{Refused, none_past}
+use Rattle.vx_machine_node.specs.RunPaths.{begun_paths, run_eof}
 use Rattle.vx_machine_nodes.specs.Runs.{behind_all, nexts_at, are_runs, all_rows, CutRefused}
-use Rattle.vx_machine_nodes.specs.Stocks.{due_stock, dues_stock}
-use Rattle.vx_machine_nodes.specs.View.{options_in, coder_in, runs_in, item_of, mind_of}
-use Rattle.vx_machine_nodes.proofs.DueSteps.{one_free}
-use Rattle.vx_machine_nodes.proofs.Fitting.{then_fit, one_fits}
+use Rattle.vx_machine_node.specs.Stocks.{due_stock, dues_stock}
+use Rattle.vx_machine_node.specs.View.{options_in, coder_in, runs_in, item_of, mind_of}
+use Rattle.vx_machine_node.proofs.DueSteps.{one_free}
+use Rattle.vx_machine_node.proofs.Fitting.{then_fit, one_fits}
 use Rattle.vx_machine_nodes.proofs.RefusalSteps.{wider, not_in, by_rows}
 use Rattle.vx_machine_nodes.proofs.RunLaws.{cut_total, cut_follow, cut_count, last_count, number_is, ended_count, cut_nexts, last_nexts, come_to, cut_behind, last_behind, rows_end}
 use Rattle.vx_machine_nodes.proofs.RunSteps.{rest_is}
@@ -61,12 +61,6 @@ module _ (c : CutterData) (n : DictNode) (p : ChunkData) (bytes : c.max_bytes �
 
   pub held_distinct : (held_at n.probe c p).distinct ≡ (cut_in c n p).distinct
   held_distinct = λ j. (stretches (options_are c n bytes len j) (typed j) c.distinct [] (cells p)).distinct
-
-  pub gives_follow : (begun b : Bool) → are_runs begun (gives_at n.probe c p b) ≡ true
-  gives_follow begun b = ap (are_runs begun) (gives_are b) ∙ cut_follow (options_in n) (ty (arc_value n.dtype)) c.number (cut_in c n p) begun b
-
-  pub gives_rows : (b : Bool) → all_rows (gives_at n.probe c p b) ≡ length (cells p)
-  gives_rows b = ap all_rows (gives_are b) ∙ cut_total (options_in n) (ty (arc_value n.dtype)) c.number c.distinct (cells p) b
 
 -- ---- how far pointers come
 
@@ -223,10 +217,6 @@ module _ (s : Setting) (name : List ℕ) (ks : Tasks) (d : DictRuns) (i : Item) 
       → TakeRefused (taken s name ks (item_of i) (mind_of (Runs d))) e
   runs_why e h =
       cut_why d d.runs false (2 * length (cut_in d.cutter (arc_value d.node) d.newest.chunk).closed + 1) (not (ty_eq (piece_type i.chunk) (ty (arc_value (arc_value d.node).dtype)))) ((d.rows + length (cells i.chunk)) ∷ []) e (made_here d d.runs) h
-
-  -- by the rows
-  pub runs_rows : (e : WriteError) → SplitRefused false (d.rows + length (cells i.chunk)) e → TakeRefused (taken s name ks (item_of i) (mind_of (Runs d))) e
-  runs_rows = by_rows None (not (ty_eq (piece_type i.chunk) (ty (arc_value (arc_value d.node).dtype)))) (d.rows + length (cells i.chunk)) (cut_indices (coder_in (arc_value d.node)) (runs_in d.runs d.cutter.distinct) (item_of d.newest))
 
 -- ---- the end
 

@@ -10,7 +10,7 @@ use Rattle.vx_chunk_cells.specs.Parts.{struct_fields}
 use Rattle.vx_rules.specs.Columns.{struct_columns}
 use Rattle.vx_split.specs.declared.error.SplitError.{SplitError}
 use Rattle.vx_split.specs.declared.error.SplitError.TheVariants as split
-use Rattle.vx_machine_view.specs.Acts.{columns_in, column_count}
+use Rattle.vx_machine_state.specs.Acts.{columns_in, column_count}
 use Rattle.vx_write_answer.specs.Causes.{of_split}
 use Rattle.vx_write_answer.specs.declared.error.WriteError.{WriteError}
 use Rattle.vx_write_answer.specs.declared.error.WriteError.TheVariants.{OutOfMemory}

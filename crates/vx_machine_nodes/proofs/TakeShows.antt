@@ -22,23 +22,23 @@ use Rattle.vx_plan.specs.PlanData.{Setting}
 use Rattle.vx_plan.specs.FlatNode.{segment, inlined, length_of}
 use Rattle.vx_strategy.specs.FlatViews.{flat_options}
 use Rattle.vx_machine_turns.specs.Flat.{forbidden}
-use Rattle.vx_machine_view.specs.State.{Next, shut_kids, join_kids, one_chunk, by_column, by_list, ending, fold_columns, Tasks}
-use Rattle.vx_machine_view.specs.Acts.{Did, stored, columns_in, column_count, puts, end_lists}
+use Rattle.vx_machine_state.specs.State.{Next, shut_kids, join_kids, one_chunk, by_column, by_list, ending, fold_columns, Tasks}
+use Rattle.vx_machine_state.specs.Acts.{Did, stored, columns_in, column_count, puts, end_lists}
 use Rattle.vx_write_answer.specs.Causes.{of_encode}
 use Rattle.vx_write_answer.specs.declared.error.WriteError.{WriteError}
 use Rattle.vx_write_answer.specs.declared.error.WriteError.TheVariants.{ManyChunks, EmptyList}
-use Rattle.vx_machine_nodes.specs.declared.item.Due.{Due}
-use Rattle.vx_machine_nodes.specs.declared.item.Item.{Item}
-use Rattle.vx_machine_nodes.specs.declared.item.Segment.{Segment}
-use Rattle.vx_machine_nodes.specs.declared.kinds.FlatNode.{FlatNode}
-use Rattle.vx_machine_nodes.specs.declared.kinds.ListsNode.{ListsNode}
-use Rattle.vx_machine_nodes.specs.declared.node.Local.{Local}
-use Rattle.vx_machine_nodes.specs.declared.node.Local.TheVariants.{Empty, Full, Chunked, Columns, Lists, Grouped, Zoned, Pressing, AsIs, Probe, Asking, Runs, Over, Passing, Made}
+use Rattle.vx_machine_node.specs.declared.item.Due.{Due}
+use Rattle.vx_machine_node.specs.declared.item.Item.{Item}
+use Rattle.vx_machine_node.specs.declared.item.Segment.{Segment}
+use Rattle.vx_machine_node.specs.declared.kinds.FlatNode.{FlatNode}
+use Rattle.vx_machine_node.specs.declared.kinds.ListsNode.{ListsNode}
+use Rattle.vx_machine_node.specs.declared.node.Local.{Local}
+use Rattle.vx_machine_node.specs.declared.node.Local.TheVariants.{Empty, Full, Chunked, Columns, Lists, Grouped, Zoned, Pressing, AsIs, Probe, Asking, Runs, Over, Passing, Made}
 use Rattle.vx_machine_nodes.specs.Acting.{bare, taken, Took, TakeRefused, tree_kept, IsStored, WordRefused, first_word, SplitRefused, ListRefused, is_flat, Ended, EndTaken, EndRefused}
-use Rattle.vx_machine_nodes.specs.Context.{setting_of}
-use Rattle.vx_machine_nodes.specs.Outcome.{AllFit}
-use Rattle.vx_machine_nodes.specs.View.{item_of, next_of, todo_of, mind_of}
-use Rattle.vx_machine_nodes.proofs.Fitting.{none_fit, then_fit, one_fits}
+use Rattle.vx_machine_node.specs.Context.{setting_of}
+use Rattle.vx_machine_node.specs.Outcome.{AllFit}
+use Rattle.vx_machine_node.specs.View.{item_of, next_of, todo_of, mind_of}
+use Rattle.vx_machine_node.proofs.Fitting.{none_fit, then_fit, one_fits}
 use Rattle.vx_machine_nodes.proofs.RefusalSteps.{by_word, by_split, by_lists}
 
 -- ---- a flat node's

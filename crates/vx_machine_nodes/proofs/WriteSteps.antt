@@ -17,17 +17,17 @@ use Rattle.vx_order.specs.declared.attempt.Attempt.TheVariants.{Written}
 use Rattle.vx_sequence.specs.Universe.{Active}
 use Rattle.vx_sequence.specs.declared.ids.SequenceId.{SequenceId}
 use Rattle.vx_plan.specs.PlanData.{Setting}
-use Rattle.vx_machine_view.specs.State.{append, Next, Mind, Tasks}
+use Rattle.vx_machine_state.specs.State.{append, Next, Mind, Tasks}
 use Rattle.vx_write_answer.specs.declared.step.ActionKind.TheVariants as actions
 use Rattle.vx_write_answer.specs.Causes.{of_order}
-use Rattle.vx_machine_nodes.specs.declared.item.Stored.{Stored}
-use Rattle.vx_machine_nodes.specs.declared.node.Local.{Local}
-use Rattle.vx_machine_nodes.specs.declared.node.Local.TheVariants.{Made}
-use Rattle.vx_machine_view.specs.State as view
+use Rattle.vx_machine_node.specs.declared.item.Stored.{Stored}
+use Rattle.vx_machine_node.specs.declared.node.Local.{Local}
+use Rattle.vx_machine_node.specs.declared.node.Local.TheVariants.{Made}
+use Rattle.vx_machine_state.specs.State as view
 use Rattle.vx_machine_nodes.specs.Acting.{IsAppended, AppendRefused, acted, ActDone}
-use Rattle.vx_machine_nodes.specs.Outcome.{Kept}
-use Rattle.vx_machine_nodes.specs.View.{stored_of, mind_of}
-use Rattle.vx_machine_nodes.proofs.Fitting.{none_fit}
+use Rattle.vx_machine_node.specs.Outcome.{Kept}
+use Rattle.vx_machine_node.specs.View.{stored_of, mind_of}
+use Rattle.vx_machine_node.proofs.Fitting.{none_fit}
 
 -- ---- the sink
 

@@ -1,47 +1,38 @@
 -- What a zoned node records, and its table, against the same in plain data.
-use Rattle.std.proofs.Common.{◌≡◌, ◌+◌, ◌<◌, ◌≤◌, ◌^◌, not, if◌then◌else◌, ℕ, suc, true, false, List, [], ◌∷◌, ◌++◌, length, map, drop, get_or, Option, Some, None, refl, sym, ap, subst, ◌∙◌, arith, length-append, append_assoc}
-use Rattle.std.proofs.lemmas.List.{map_push, drop_more, drop_all}
+use Rattle.std.proofs.Common.{◌≡◌, ◌+◌, ◌<◌, ◌^◌, not, ℕ, true, List, [], ◌∷◌, ◌++◌, length, map, Option, Some, None, refl, sym, ap, subst, ◌∙◌, arith, append_assoc}
+use Rattle.std.proofs.lemmas.List.{map_push}
 use Rattle.std.specs.Option.{option_map}
 use Rattle.std.specs.Arc.{arc_value}
 use Rattle.std.specs.Int.NonZero.{non_zero_u32_get}
-use Rattle.vx_hash.specs.XxHash3.{xxhash3_64}
 use Rattle.vx_model.specs.Ty.{ty_eq}
 use Rattle.vx_model.specs.TyView.{ty}
 use Rattle.vx_model.specs.ValueData.{ValueData}
-use Rattle.vx_model.specs.ChunkData.{ChunkData, piece_type, cells, row_values}
-use Rattle.vx_aggregate_spec.specs.Aggregate.{Aggregate, Column, spec, aggregate_id}
+use Rattle.vx_model.specs.ChunkData.{ChunkData, piece_type, cells}
+use Rattle.vx_aggregate_spec.specs.Aggregate.{Aggregate, Column, spec}
 use Rattle.vx_aggregate.specs.declared.aggregate.AggregateFn.{AggregateFn}
 use Rattle.vx_aggregate.specs.AggregateView.{aggregate}
-use Rattle.vx_zone_spec.specs.Record.{zone_record}
-use Rattle.vx_zone_spec.specs.ZoneMap.{names_of}
 use Rattle.vx_zone_spec.specs.ZoneTable.{Filled, kept_columns, table_specs, table_piece}
-use Rattle.vx_zone_record_spec.specs.Held.{record_fits}
 use Rattle.vx_sequence.specs.Universe.{Active}
 use Rattle.vx_machine_ids.specs.Stock.{Stock, none, both}
 use Rattle.vx_machine_ids.specs.Balance.{Owned, Moved}
 use Rattle.vx_machine_ids.proofs.Stocks.{stock_is}
 use Rattle.vx_machine_ids.proofs.MoveLaws.{moved_none}
-use Rattle.vx_sink.specs.ContextView.{allows_id}
-use Rattle.vx_plan.specs.PlanData.{Setting, fault, at_start, forbidden_aggregate}
-use Rattle.vx_plan.specs.SourcePlan.{first_what}
-use Rattle.vx_plan.specs.ZonedNode.{allows, forbidden_faults}
+use Rattle.vx_plan.specs.PlanData.{Setting}
 use Rattle.vx_machine_turns.specs.Zoned.{zone_fault}
-use Rattle.vx_turn_laws.specs.Guard.{Guard, where_some, record_at, refused_at, behind}
-use Rattle.vx_zone_table.specs.Gathered.{Gathered, with_record, aggregates_in, finished}
+use Rattle.vx_turn_laws.specs.Guard.{Guard, where_some, refused_at}
+use Rattle.vx_zone_table.specs.Gathered.{Gathered, aggregates_in, finished}
 use Rattle.vx_zone_table.specs.BuilderView.{gathered}
-use Rattle.vx_machine_view.specs.State.{Next, shut_kids, start_table, leave_kid, join_kids, fold_zones, by_zone, Tasks}
-use Rattle.vx_machine_view.specs.Acts.{Did, end_zones}
-use Rattle.vx_machine_view.specs.Zoned.{Zones, one_zone}
-use Rattle.vx_machine_nodes.specs.declared.item.Due.{Due}
-use Rattle.vx_machine_nodes.specs.declared.item.Due.TheVariants.{Put}
-use Rattle.vx_machine_nodes.specs.declared.item.Item.{Item}
-use Rattle.vx_machine_nodes.specs.declared.node.Local.TheVariants.{Zoned, Over, Passing}
-use Rattle.vx_machine_nodes.specs.declared.zoned_node.ZonedNode.{ZonedNode}
+use Rattle.vx_machine_state.specs.State.{Next, shut_kids, start_table, join_kids, fold_zones, by_zone, Tasks}
+use Rattle.vx_machine_state.specs.Acts.{Did, end_zones}
+use Rattle.vx_machine_state.specs.Zoned.{Zones, one_zone}
+use Rattle.vx_machine_node.specs.declared.item.Due.{Due}
+use Rattle.vx_machine_node.specs.declared.item.Due.TheVariants.{Put}
+use Rattle.vx_machine_node.specs.declared.item.Item.{Item}
+use Rattle.vx_machine_node.specs.declared.node.Local.TheVariants.{Zoned, Over}
+use Rattle.vx_machine_node.specs.declared.zoned_node.ZonedNode.{ZonedNode}
 use Rattle.vx_machine_nodes.specs.Acting.{bare, taken, Took, Ended, EndTaken}
-use Rattle.vx_machine_nodes.specs.Context.{Allowed}
-use Rattle.vx_machine_nodes.specs.Fresh.{forbidden_among}
-use Rattle.vx_machine_nodes.specs.View.{form_at, item_of, next_of, todo_of, zoner_in, zones_in, mind_of}
-use Rattle.vx_machine_nodes.proofs.Fitting.{none_fit, one_fits}
+use Rattle.vx_machine_node.specs.View.{form_at, item_of, next_of, todo_of, zoner_in, zones_in, mind_of}
+use Rattle.vx_machine_node.proofs.Fitting.{one_fits}
 use Rattle.vx_machine_nodes.proofs.TakeShows.{two_more}
 
 -- ---- a record
@@ -51,32 +42,9 @@ pub told_is : (columns : List Column) (r v : List ValueData) → Some v ≡ wher
 told_is [] r v h = cc
 told_is (a ∷ columns) r v h = cc
 
-pub untold_is : (hash : List ℕ → ℕ) (g : Guard) (p : ChunkData) → None ≡ where_some g.columns (record_at hash g p) → [] ≡ record_at hash g p
-untold_is hash g p h = empty g.columns h
-  where
-    empty : (columns : List Column) → None ≡ where_some columns (record_at hash g p) → [] ≡ zone_record hash g.typed (row_values p) columns
-    empty [] k = refl
-    empty (a ∷ columns) k = cc
-
-pub untold_fits : (columns : List Column) (r : List ValueData) → None ≡ where_some columns r → record_fits columns [] ≡ true
-untold_fits [] r h = refl
-untold_fits (a ∷ columns) r h = cc
-
 -- what is gathered, and the rows of the last chunk and of all
 abbrev zones_of : Gathered → Guard → ℕ → Zones
 zones_of b g rows = record { records = b.records; last = g.last; zones = length b.records; rows = rows }
-
--- one more
-pub zone_more : (s : Setting) (n : ZonedNode) (p : ChunkData) (v : List ValueData) (b : Gathered) (g : Guard) (rows : ℕ) → s.hash ≡ xxhash3_64 → v ≡ record_at xxhash3_64 n.guard p
-    → g ≡ behind n.guard p → b ≡ with_record (gathered n.records) v → rows ≡ n.rows + length (cells p) → zones_of b g rows ≡ one_zone s (zoner_in n) (zones_in n) p
-zone_more s n p v b g rows h is next more sum =
-    let had : List (List ValueData) = (gathered n.records).records in
-    let same : record_at xxhash3_64 n.guard p ≡ zone_record s.hash (ty (arc_value n.dtype)) (row_values p) n.guard.columns = λ j. zone_record (sym h j) (n.typed j) (row_values p) n.guard.columns in
-    let one : length (had ++ (v ∷ [])) ≡ length had + 1 = length-append had (v ∷ []) in
-    let count : length (had ++ (v ∷ [])) ≡ suc (length had) = omega (arith, one) in
-    let records : b.records ≡ had ++ (zone_record s.hash (ty (arc_value n.dtype)) (row_values p) n.guard.columns ∷ []) = ap (λ x. x.records) more ∙ ap (λ z. had ++ (z ∷ [])) (is ∙ same) in
-    let zones : length b.records ≡ suc (length had) = ap (λ x. length x.records) more ∙ count in
-    λ j. record { records = records j; last = (next j).last; zones = zones j; rows = sum j }
 
 -- the take of a chunk
 pub zone_took : (s : Setting) (name : List ℕ) (ks : Tasks) (n m : ZonedNode) (i : Item) (more before : List Due) → zoner_in m ≡ zoner_in n → m.eof ≡ n.eof
@@ -128,10 +96,6 @@ module _ (n : ZonedNode) (kids : ℕ) where
   kept_as : finished (gathered n.records) ≡ option_map shown columns_kept
   kept_as = ap (λ columns. option_map shown (kept_columns columns (gathered n.records).records)) n.columns
 
-  pub zones_end_none : (todo before : List Next) → None ≡ finished (gathered n.records) → todo ≡ before ++ (shut_kids ∷ leave_kid n.eof ∷ []) → EndTaken (Zoned n) kids Passing todo before
-  zones_end_none todo before h e = λ s ks same. subst (λ o. Ended (ends_by o ks) (mind_of Passing) todo before) (sym (kept_none shown columns_kept (h ∙ kept_as)))
-      (record { unrefused = refl; fits = refl; counted = none_fit; mind_is = refl; todo_is = e })
-
   pub zones_end_some : (todo before : List Next) (chunk : ChunkData) (aggregates : List AggregateFn) → Some (chunk, map aggregate aggregates) ≡ finished (gathered n.records) → length (gathered n.records).records < 2 ^ 64
       → todo ≡ before ++ (shut_kids ∷ start_table (form_at n.stats.item (piece_type chunk)) n.eof chunk
       ∷ join_kids (fold_zones (ty (arc_value n.dtype)) n.rows (non_zero_u32_get n.zone_len) (map (λ a. spec (aggregate a)) aggregates)) ∷ []) → EndTaken (Zoned n) kids Over todo before
@@ -152,28 +116,3 @@ module _ (n : ZonedNode) (kids : ℕ) where
 pub kept_behind : (u : Active) (l d e : Stock) → e ≡ both d l → Owned u (both l d) → Moved u u (both l d) (both none e)
 kept_behind u l d e is o =
     subst (λ s. Moved u u (both l d) s) (stock_is (both l d) (both none (both d l)) (λ p. omega arith) (λ p. omega arith) ∙ ap (both none) (sym is)) (moved_none u (both l d) o)
-
--- ---- what may be recorded
-
-allows_is : (a : Allowed) (x : Aggregate) → allows a x ≡ allows_id a (aggregate_id x)
-allows_is None x = refl
-allows_is (Some ids) x = refl
-
-pub faults_among : (a : Allowed) (columns : List Column) → forbidden_faults a columns ≡ forbidden_among a (names_of columns)
-faults_among a [] = refl
-faults_among a (c ∷ columns) =
-    (λ j. if allows_is a c.0 j then faults_among a columns j else fault (forbidden_aggregate (aggregate_id c.0)) at_start ∷ [])
-
-module _ (a : Allowed) (xs : List AggregateFn) (i : ℕ) (x : AggregateFn) (h : i < length xs) (at : x ≡ get_or xs i x) where
-  among_is : forbidden_among a (map aggregate (drop i xs)) ≡ forbidden_among a (aggregate x ∷ map aggregate (drop (i + 1) xs))
-  among_is = ap (λ zs. forbidden_among a (map aggregate zs)) (drop_more xs i x h ∙ ap (λ z. z ∷ drop (i + 1) xs) (sym at))
-
-  -- one that may be, and one that may not
-  pub among_next : allows_id a (aggregate_id (aggregate x)) ≡ true → forbidden_among a (map aggregate (drop (i + 1) xs)) ≡ forbidden_among a (map aggregate (drop i xs))
-  among_next is = sym (among_is ∙ ap (λ b. if b then forbidden_among a (map aggregate (drop (i + 1) xs)) else fault (forbidden_aggregate (aggregate_id (aggregate x))) at_start ∷ []) is)
-
-  pub among_first : allows_id a (aggregate_id (aggregate x)) ≡ false → first_what (forbidden_among a (map aggregate (drop i xs))) ≡ Some (forbidden_aggregate (aggregate_id (aggregate x)))
-  among_first is = ap first_what (among_is ∙ ap (λ b. if b then forbidden_among a (map aggregate (drop (i + 1) xs)) else fault (forbidden_aggregate (aggregate_id (aggregate x))) at_start ∷ []) is)
-
-pub among_end : (a : Allowed) (xs : List AggregateFn) (i : ℕ) → length xs ≤ i → forbidden_among a (map aggregate (drop i xs)) ≡ []
-among_end a xs i h = ap (λ zs. forbidden_among a (map aggregate zs)) (drop_all i xs h)

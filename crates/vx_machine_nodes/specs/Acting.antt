@@ -11,22 +11,22 @@ use Rattle.vx_order.specs.Answers.{IsNumber, IsPast, IsShared, After}
 use Rattle.vx_order.specs.declared.attempt.Attempt.TheVariants.{Written}
 use Rattle.vx_plan.specs.PlanData.{Setting, Pair, What, many_chunks, Item as Piece}
 use Rattle.vx_machine_turns.specs.Flat.{forbidden}
-use Rattle.vx_machine_view.specs.State.{Next, hand_on, Mind, ending, Desk, Tasks}
-use Rattle.vx_machine_view.specs.Images.{images_of}
-use Rattle.vx_machine_view.specs.Start.{waiting}
+use Rattle.vx_machine_state.specs.State.{Next, hand_on, Mind, ending, Desk, Tasks}
+use Rattle.vx_machine_state.specs.Images.{images_of}
+use Rattle.vx_machine_state.specs.Start.{waiting}
 use Rattle.vx_sink.specs.declared.context.LayoutWriterContext.{LayoutWriterContext}
 use Rattle.vx_sink.specs.ContextView.{counted as bytes_counted}
-use Rattle.vx_machine_view.specs.Acts.{count, Did, do_next, take_chunk, take_end}
+use Rattle.vx_machine_state.specs.Acts.{count, Did, do_next, take_chunk, take_end}
 use Rattle.vx_write_answer.specs.declared.step.ActionKind.{ActionKind}
 use Rattle.vx_write_answer.specs.declared.error.WriteError.{WriteError}
-use Rattle.vx_machine_nodes.specs.declared.item.Item.{Item}
-use Rattle.vx_machine_nodes.specs.declared.item.Segment.{Segment}
-use Rattle.vx_machine_nodes.specs.declared.kinds.FlatNode.{FlatNode}
-use Rattle.vx_machine_nodes.specs.declared.node.Local.{Local}
-use Rattle.vx_machine_nodes.specs.declared.node.Local.TheVariants.{Empty, Full, Chunked, Columns, Lists, Grouped, Over, Passing, Made, Zoned, Pressing, AsIs, Probe, Asking, Runs}
-use Rattle.vx_machine_nodes.specs.Context.{setting_of}
-use Rattle.vx_machine_nodes.specs.Outcome.{action_of, AllFit, Refused, none_past}
-use Rattle.vx_machine_nodes.specs.View.{item_of, mind_of}
+use Rattle.vx_machine_node.specs.declared.item.Item.{Item}
+use Rattle.vx_machine_node.specs.declared.item.Segment.{Segment}
+use Rattle.vx_machine_node.specs.declared.kinds.FlatNode.{FlatNode}
+use Rattle.vx_machine_node.specs.declared.node.Local.{Local}
+use Rattle.vx_machine_node.specs.declared.node.Local.TheVariants.{Empty, Full, Chunked, Columns, Lists, Grouped, Over, Passing, Made, Zoned, Pressing, AsIs, Probe, Asking, Runs}
+use Rattle.vx_machine_node.specs.Context.{setting_of}
+use Rattle.vx_machine_node.specs.Outcome.{action_of, AllFit, Refused, none_past}
+use Rattle.vx_machine_node.specs.View.{item_of, mind_of}
 
 -- ---- what a sink is told
 

@@ -1,13 +1,3 @@
-pub mod Stocks
-pub mod Sizes
-pub mod RunPaths
-pub mod Regrouped
-pub mod Ledger
-pub mod Causes
 pub mod Calls
-pub mod View
-pub mod Context
-pub mod Outcome
 pub mod Runs
 pub mod Acting
-pub mod Fresh

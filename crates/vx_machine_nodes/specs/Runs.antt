@@ -7,11 +7,11 @@ use Rattle.vx_react.specs.declared.place.Place.TheVariants.{Child, Column, Codes
 use Rattle.vx_react.specs.Reactor.{Output}
 use Rattle.vx_plan.specs.PlanData.{Item}
 use Rattle.vx_machine_turns.specs.Locals.{RunsSoFar}
-use Rattle.vx_machine_view.specs.Coder.{Coder}
-use Rattle.vx_machine_view.specs.Coding.{puts_codes, puts_values, deed_next}
-use Rattle.vx_machine_view.specs.State.{Next}
+use Rattle.vx_machine_state.specs.Coder.{Coder}
+use Rattle.vx_machine_state.specs.Coding.{puts_codes, puts_values, deed_next}
+use Rattle.vx_machine_state.specs.State.{Next}
 use Rattle.vx_write_answer.specs.declared.error.WriteError.{WriteError}
-use Rattle.vx_machine_nodes.specs.Outcome.{Refused, none_past}
+use Rattle.vx_machine_node.specs.Outcome.{Refused, none_past}
 
 -- ---- an output
 

@@ -5,115 +5,35 @@ ghost use Rattle.std.specs.Prelude.{◌≡◌, ◌+◌, ℕ, List, [], length, I
 ghost use Rattle.std.specs.Arc.{arc_value};
 ghost use Rattle.vx_model.specs.ChunkData.{piece_type, cells};
 ghost use Rattle.vx_model.specs.TyView.{ty};
-ghost use Rattle.vx_machine_ids.specs.Stock.{none, both, end_stock, ok_stock};
+ghost use Rattle.vx_machine_ids.specs.Stock.{both, end_stock, ok_stock};
 ghost use Rattle.vx_machine_ids.specs.Balance.{Owned, Moved};
 ghost use Rattle.vx_plan.specs.DictNode.{is_dictionary as has_codes};
 ghost use Rattle.vx_plan.specs.PlanData.{Setting, rows_in};
-ghost use Rattle.vx_machine_view.specs.State.{Tasks, by_run};
-ghost use Rattle.vx_machine_view.specs.Coding.{no_runs};
+ghost use Rattle.vx_machine_state.specs.State.{Tasks, by_run};
+ghost use Rattle.vx_machine_state.specs.Coding.{no_runs};
 ghost use Rattle.vx_machine_nodes.specs.Acting.{taken, Took, TakeRefused, EndTaken, EndRefused};
-ghost use Rattle.vx_machine_nodes.specs.Causes.{MayCome};
-ghost use Rattle.vx_machine_nodes.specs.Ledger.{dues_reserved, local_reserved};
-ghost use Rattle.vx_machine_nodes.specs.Stocks.{item_stock, dues_stock, local_stock, probe_stock, runs_stock, run_stock};
-ghost use Rattle.vx_machine_nodes.specs.View.{coder_in, item_of, todo_of, mind_of};
-ghost use Rattle.vx_machine_nodes.specs.declared.node.Local.TheVariants.{Probe, Asking, Runs};
+ghost use Rattle.vx_machine_node.specs.Causes.{MayCome};
+ghost use Rattle.vx_machine_node.specs.Ledger.{dues_reserved, local_reserved};
+ghost use Rattle.vx_machine_node.specs.Stocks.{item_stock, dues_stock, local_stock, probe_stock, runs_stock};
+ghost use Rattle.vx_machine_node.specs.View.{coder_in, item_of, todo_of, mind_of};
+ghost use Rattle.vx_machine_node.specs.declared.node.Local.TheVariants.{Probe, Asking, Runs};
 
 use crate::columns::{add_rows, has_type};
 use crate::cuts::cut;
-use crate::dict_node::{DictNode, DictProbe, DictRuns, RunStart, RunsSoFar};
-use crate::item::{Due, Item, give_up_item};
-use crate::node::{Local, Shape};
 use std::alloc::Global;
 use std::collections::VecDeque;
 use std::sync::Arc;
 use vx_chunk::Chunk;
 use vx_machine_ids::{give_up_id, give_up_pointer};
+use vx_machine_node::{
+    DictNode, DictProbe, DictRuns, Due, Item, Local, RunsSoFar, Shape, give_up_item, give_up_probe,
+    give_up_runs, give_up_so_far, into_ended,
+};
 use vx_model::{DType, EncodingId};
 use vx_order::Order;
 use vx_runs::RunCutter;
 use vx_sequence::SequencePointer;
 use vx_write_answer::WriteError;
-
-// ---- what is given up
-
-/// Gives up its pointer, and the id.
-pub fn give_up_probe<O: Order>(order: &mut O, probe: DictProbe)
-    requires { Owned (O.active order.old) (probe_stock probe) }
-    ensures moved { Moved (O.active order.old) (O.active order.new) (probe_stock probe) none }
-    ensures outlet { O.outlet order.new ≡ O.outlet order.old }
-    ensures sink { O.sink order.new ≡ O.sink order.old }
-{
-    let DictProbe {
-        node,
-        pointer,
-        item,
-    } = probe;
-    drop(node);
-    give_up_pointer(order, pointer);
-    give_up_item(order, item);
-}
-
-pub(crate) fn give_up_runs<O: Order>(order: &mut O, runs: DictRuns)
-    requires { Owned (O.active order.old) (runs_stock runs) }
-    ensures moved { Moved (O.active order.old) (O.active order.new) (runs_stock runs) none }
-    ensures outlet { O.outlet order.new ≡ O.outlet order.old }
-    ensures sink { O.sink order.new ≡ O.sink order.old }
-{
-    let DictRuns {
-        node,
-        cutter,
-        newest,
-        rows: _,
-        runs,
-    } = runs;
-    drop((node, cutter));
-    give_up_item(order, newest);
-    give_up_so_far(order, runs);
-}
-
-fn give_up_so_far<O: Order>(order: &mut O, runs: RunsSoFar)
-    requires { Owned (O.active order.old) (end_stock runs.pointer) }
-    ensures moved { Moved (O.active order.old) (O.active order.new) (end_stock runs.pointer) none }
-    ensures outlet { O.outlet order.new ≡ O.outlet order.old }
-    ensures sink { O.sink order.new ≡ O.sink order.old }
-{
-    drop(into_ended(order, runs));
-}
-
-/// Gives up its pointer. The rows of each run before the one that goes on are left.
-fn into_ended<O: Order>(order: &mut O, runs: RunsSoFar) -> Vec<u64>
-    requires { Owned (O.active order.old) (end_stock runs.pointer) }
-    ensures moved { Moved (O.active order.old) (O.active order.new) (end_stock runs.pointer) none }
-    ensures ended { result.items ≡ runs.ended.items }
-    ensures outlet { O.outlet order.new ≡ O.outlet order.old }
-    ensures sink { O.sink order.new ≡ O.sink order.old }
-{
-    let RunsSoFar {
-        pointer,
-        begun: _,
-        rows: _,
-        ended,
-    } = runs;
-    give_up_pointer(order, pointer);
-    ended
-}
-
-pub(crate) fn give_up_run<O: Order>(order: &mut O, run: RunStart)
-    requires { Owned (O.active order.old) (run_stock run) }
-    ensures moved { Moved (O.active order.old) (O.active order.new) (run_stock run) none }
-    ensures outlet { O.outlet order.new ≡ O.outlet order.old }
-    ensures sink { O.sink order.new ≡ O.sink order.old }
-{
-    let RunStart {
-        node,
-        child: _,
-        codes,
-        values,
-    } = run;
-    drop(node);
-    give_up_id(order, codes);
-    give_up_id(order, values);
-}
 
 // ---- the first chunk
 

@@ -1,6 +1,6 @@
 //! A flat node stores its one chunk as one segment.
 
-ghost use Rattle.std.specs.Prelude.{◌≡◌, ◌≤◌, ◌+◌, ℕ, List, Some, IsTrue, IfOk, IfErr, OnOk, OnErr};
+ghost use Rattle.std.specs.Prelude.{◌≡◌, ◌≤◌, ℕ, List, Some, IsTrue, IfOk, IfErr, OnOk, OnErr};
 ghost use Rattle.std.specs.Arc.{arc_value};
 ghost use Rattle.vx_model.specs.declared.encoding.EncodingId.{EncodingId};
 ghost use Rattle.vx_model.specs.ChunkData.{ChunkData};
@@ -14,50 +14,27 @@ ghost use Rattle.vx_sequence.specs.Universe.{IsLeast};
 ghost use Rattle.vx_machine_ids.specs.Stock.{none, both, id_stock};
 ghost use Rattle.vx_machine_ids.specs.Balance.{Owned, Moved};
 ghost use Rattle.vx_machine_turns.specs.Flat.{forbidden};
-ghost use Rattle.vx_machine_view.specs.State.{Next, Tasks};
+ghost use Rattle.vx_machine_state.specs.State.{Next, Tasks};
 ghost use Rattle.vx_machine_nodes.specs.Acting.{IsAppended, AppendRefused, tree_kept, IsStored, WordRefused, first_word, is_flat, ChunkTaken, ChunkRefused};
 ghost use Rattle.vx_machine_nodes.specs.Calls.{AppendTold};
-ghost use Rattle.vx_machine_nodes.specs.Causes.{MayCome, AppendMay};
-ghost use Rattle.vx_machine_nodes.specs.Ledger.{Paid, told_by, local_reserved};
-ghost use Rattle.vx_machine_nodes.specs.Outcome.{Kept};
-ghost use Rattle.vx_machine_nodes.specs.Stocks.{item_stock, local_stock, stored_stock};
+ghost use Rattle.vx_machine_node.specs.Causes.{MayCome, AppendMay};
+ghost use Rattle.vx_machine_node.specs.Ledger.{Paid, told_by, local_reserved};
+ghost use Rattle.vx_machine_node.specs.Outcome.{Kept};
+ghost use Rattle.vx_machine_node.specs.Stocks.{item_stock, local_stock, stored_stock};
 
-use crate::item::{Item, Segment, Stored};
-use crate::kinds::FlatNode;
-use crate::node::{Local, give_up_local};
 use std::alloc::{AllocError, Global};
-use std::mem;
 use std::sync::Arc;
 use vx_array_tree::array_tree;
 use vx_chunk::Chunk;
 use vx_layout_tree::{FlatLayout, Layout};
 use vx_machine_ids::give_up_id;
+use vx_machine_node::{FlatNode, Item, Local, Segment, Stored, set_local};
 use vx_model::{ArrayContext, Blob, DType, SegmentId};
 use vx_order::{Attempt, Order};
 use vx_segment_writer::encode_segment;
 use vx_sequence::SequenceId;
 use vx_sink::LayoutWriterContext;
 use vx_write_answer::WriteError;
-
-/// Puts something else in mind. What was there is given up.
-pub fn set_local<O: Order>(
-    ctx: &mut LayoutWriterContext,
-    order: &mut O,
-    local: &mut Local,
-    new: Local,
-)
-    requires owned { Owned (O.active order.old) (both (local_stock local.old) (local_stock new)) }
-    requires reserved { local_reserved local.old ≤ counted ctx.old }
-    ensures moved { Moved (O.active order.old) (O.active order.new) (both (local_stock local.old) (local_stock new)) (local_stock local.new) }
-    ensures tracked { Paid ctx.old ctx.new (local_reserved local.old) 0 }
-    ensures context { told_by ctx.new ≡ told_by ctx.old }
-    ensures local { local.new ≡ new }
-    ensures outlet { O.outlet order.new ≡ O.outlet order.old }
-    ensures sink { O.sink order.new ≡ O.sink order.old }
-{
-    let old = mem::replace(local, new);
-    give_up_local(ctx, order, old);
-}
 
 /// The segment's tree, where the node's layout keeps it.
 fn kept_tree(alloc: Global, node: &FlatNode, segment: &[u8]) -> Result<Option<Blob>, AllocError>

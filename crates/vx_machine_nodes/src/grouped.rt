@@ -12,82 +12,31 @@ ghost use Rattle.vx_regroup.specs.Refusals.{first_past, Refuses};
 ghost use Rattle.vx_machine_ids.specs.Stock.{none, both, id_stock, all_ids, some_stock, ok_stock};
 ghost use Rattle.vx_machine_ids.specs.Balance.{Owned, Moved};
 ghost use Rattle.vx_plan.specs.PlanData.{Setting};
-ghost use Rattle.vx_machine_view.specs.State.{Tasks, hand_on};
-ghost use Rattle.vx_machine_view.specs.Acts.{hand_all};
+ghost use Rattle.vx_machine_state.specs.State.{Tasks, hand_on};
+ghost use Rattle.vx_machine_state.specs.Acts.{hand_all};
 ghost use Rattle.vx_machine_nodes.specs.Acting.{ListRefused, TakeStopped, taken, Took, EndTaken, EndRefused};
-ghost use Rattle.vx_machine_nodes.specs.Causes.{MayCome};
-ghost use Rattle.vx_machine_nodes.specs.Ledger.{Paid, told_by, some_bytes, ok_bytes, dues_reserved, local_reserved, node_reserved};
-ghost use Rattle.vx_machine_nodes.specs.Regrouped.{is_of, misfits, misfit_in, weight_in, reserved_of, sizes_in, is_idle, rows_counted, Weighs, taken_sizes, handed, ActedOn, acted_numbers, is_collection, rest_hands, RestFits};
-ghost use Rattle.vx_machine_nodes.specs.Sizes.{sum_of};
-ghost use Rattle.vx_machine_nodes.specs.Stocks.{item_stock, dues_stock, local_stock, node_stock};
-ghost use Rattle.vx_machine_nodes.specs.View.{item_of, todo_of, mind_of};
-ghost use Rattle.vx_machine_nodes.specs.declared.node.Local.{Local};
+ghost use Rattle.vx_machine_node.specs.Causes.{MayCome};
+ghost use Rattle.vx_machine_node.specs.Ledger.{Paid, told_by, some_bytes, ok_bytes, dues_reserved, local_reserved, node_reserved};
+ghost use Rattle.vx_machine_node.specs.Regrouped.{is_of, misfits, misfit_in, weight_in, reserved_of, sizes_in, is_idle, rows_counted, Weighs, taken_sizes, handed, ActedOn, acted_numbers, is_collection, rest_hands, RestFits};
+ghost use Rattle.vx_machine_node.specs.Sizes.{sum_of};
+ghost use Rattle.vx_machine_node.specs.Stocks.{item_stock, dues_stock, local_stock, node_stock};
+ghost use Rattle.vx_machine_node.specs.View.{item_of, todo_of, mind_of};
+ghost use Rattle.vx_machine_node.specs.declared.node.Local.{Local};
 
 use crate::columns::{add_rows, has_type};
-use crate::grouped_node::GroupedNode;
-use crate::item::{Due, Item, give_up_item};
-use crate::node::Local;
 use std::alloc::Global;
 use std::collections::VecDeque;
 use vx_chunk::{Chunk, ChunkError};
 use vx_machine_ids::{give_up_id, take_children};
+use vx_machine_node::{
+    Due, GroupedNode, Item, Local, give_up_grouped, give_up_item, give_up_newest, release_all,
+};
 use vx_model::DType;
 use vx_order::Order;
 use vx_regroup::Regroup;
 use vx_sequence::SequenceId;
 use vx_sink::{BufferedBytesReservation, LayoutWriterContext, TooLarge};
 use vx_write_answer::WriteError;
-
-// ---- what is given up
-
-fn release_all(ctx: &mut LayoutWriterContext, mut reserved: VecDeque<BufferedBytesReservation>)
-    requires { sum_of reserved.items ≤ counted ctx.old }
-    ensures tracked { Paid ctx.old ctx.new (sum_of reserved.items) 0 }
-    ensures context { told_by ctx.new ≡ told_by ctx.old }
-{
-    'reserved: while let Some(reservation) = reserved.pop_back() {
-        ctx.release_buffered_bytes(reservation);
-    }
-    reserved.destroy_empty();
-}
-
-/// Gives up the newest chunk's id, and releases what is reserved.
-pub(crate) fn give_up_grouped<O: Order>(
-    ctx: &mut LayoutWriterContext,
-    order: &mut O,
-    node: GroupedNode,
-)
-    requires owned { Owned (O.active order.old) (node_stock node) }
-    requires reserved { node_reserved node ≤ counted ctx.old }
-    ensures moved { Moved (O.active order.old) (O.active order.new) (node_stock node) none }
-    ensures tracked { Paid ctx.old ctx.new (node_reserved node) 0 }
-    ensures context { told_by ctx.new ≡ told_by ctx.old }
-    ensures outlet { O.outlet order.new ≡ O.outlet order.old }
-    ensures sink { O.sink order.new ≡ O.sink order.old }
-{
-    let GroupedNode {
-        dtype,
-        rule,
-        newest,
-        rows: _,
-        reserved,
-    } = node;
-    drop((dtype, rule));
-    release_all(ctx, reserved);
-    give_up_newest(order, newest);
-}
-
-fn give_up_newest<O: Order>(order: &mut O, newest: Option<Item>)
-    requires { Owned (O.active order.old) (some_stock item_stock newest) }
-    ensures moved { Moved (O.active order.old) (O.active order.new) (some_stock item_stock newest) none }
-    ensures outlet { O.outlet order.new ≡ O.outlet order.old }
-    ensures sink { O.sink order.new ≡ O.sink order.old }
-{
-    match newest {
-        Some(item) => give_up_item(order, item),
-        None => {}
-    }
-}
 
 // ---- what a chunk must have
 

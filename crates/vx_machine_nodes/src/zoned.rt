@@ -10,64 +10,29 @@ ghost use Rattle.vx_zone_record_spec.specs.Held.{record_fits};
 ghost use Rattle.vx_turn_laws.specs.Guard.{Guard, refused_at, record_at, behind};
 ghost use Rattle.vx_zone_guard.specs.GuardView.{values_of};
 ghost use Rattle.vx_zone_guard.specs.Causes.{Refuses};
-ghost use Rattle.vx_machine_ids.specs.Stock.{none, both, ok_stock};
+ghost use Rattle.vx_machine_ids.specs.Stock.{both, ok_stock};
 ghost use Rattle.vx_machine_ids.specs.Balance.{Owned, Moved};
 ghost use Rattle.vx_plan.specs.PlanData.{Setting};
-ghost use Rattle.vx_machine_view.specs.State.{Tasks};
-ghost use Rattle.vx_machine_view.specs.Zoned.{one_zone};
+ghost use Rattle.vx_machine_state.specs.State.{Tasks};
+ghost use Rattle.vx_machine_state.specs.Zoned.{one_zone};
 ghost use Rattle.vx_machine_nodes.specs.Acting.{ZoneRefused, taken, Took, TakeRefused, EndTaken};
-ghost use Rattle.vx_machine_nodes.specs.Causes.{MayCome};
-ghost use Rattle.vx_machine_nodes.specs.Ledger.{dues_reserved, local_reserved};
-ghost use Rattle.vx_machine_nodes.specs.Stocks.{item_stock, dues_stock, local_stock, zoned_stock, table_stock};
-ghost use Rattle.vx_machine_nodes.specs.View.{item_of, todo_of, mind_of, zoner_in, zones_in};
-ghost use Rattle.vx_machine_nodes.specs.declared.item.Due.TheVariants.{Table};
-ghost use Rattle.vx_machine_nodes.specs.declared.node.Local.TheVariants.{Zoned};
+ghost use Rattle.vx_machine_node.specs.Causes.{MayCome};
+ghost use Rattle.vx_machine_node.specs.Ledger.{dues_reserved, local_reserved};
+ghost use Rattle.vx_machine_node.specs.Stocks.{item_stock, dues_stock, local_stock, zoned_stock};
+ghost use Rattle.vx_machine_node.specs.View.{item_of, todo_of, mind_of, zoner_in, zones_in};
+ghost use Rattle.vx_machine_node.specs.declared.item.Due.TheVariants.{Table};
+ghost use Rattle.vx_machine_node.specs.declared.node.Local.TheVariants.{Zoned};
 
 use crate::columns::{add_rows, has_type};
-use crate::item::{Due, Item, give_up_item};
-use crate::node::{Local, Shape};
-use crate::zoned_node::{TableStart, ZonedNode, Zones};
 use std::alloc::Global;
 use std::collections::VecDeque;
 use vx_chunk::Chunk;
 use vx_machine_ids::{give_up_id, give_up_pointer};
+use vx_machine_node::{Due, Item, Local, Shape, TableStart, ZonedNode, Zones, give_up_item};
 use vx_model::Value;
 use vx_order::Order;
 use vx_write_answer::WriteError;
 use vx_zone_guard::{GuardError, ZoneGuard};
-
-// ---- what is given up
-
-/// Gives up its pointer.
-pub fn give_up_zoned<O: Order>(order: &mut O, node: ZonedNode)
-    requires { Owned (O.active order.old) (zoned_stock node) }
-    ensures moved { Moved (O.active order.old) (O.active order.new) (zoned_stock node) none }
-    ensures outlet { O.outlet order.new ≡ O.outlet order.old }
-    ensures sink { O.sink order.new ≡ O.sink order.old }
-{
-    let ZonedNode {
-        dtype,
-        zone_len: _,
-        guard,
-        records,
-        stats,
-        eof,
-        rows: _,
-    } = node;
-    drop((dtype, guard, records, stats));
-    give_up_pointer(order, eof);
-}
-
-pub(crate) fn give_up_table<O: Order>(order: &mut O, table: TableStart)
-    requires { Owned (O.active order.old) (table_stock table) }
-    ensures moved { Moved (O.active order.old) (O.active order.new) (table_stock table) none }
-    ensures outlet { O.outlet order.new ≡ O.outlet order.old }
-    ensures sink { O.sink order.new ≡ O.sink order.old }
-{
-    let TableStart { stats, chunk, eof } = table;
-    drop((stats, chunk));
-    give_up_pointer(order, eof);
-}
 
 // ---- a chunk
 

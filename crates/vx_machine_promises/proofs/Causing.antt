@@ -12,6 +12,7 @@ use Rattle.vx_machine_turns.specs.Acts.{raised_in, lowered_in}
 use Rattle.vx_machine_turns.specs.Readings.{fault_reading, number_reading, index_reading, start_reading, raise_reading}
 use Rattle.vx_machine_turns.specs.Forms.{form_nodes}
 use Rattle.vx_strategy_spec.specs.Walk.{walk}
+use Rattle.vx_named_tasks.specs.Names.{root_outset}
 use Rattle.vx_machine_steps.specs.Tree.{read}
 use Rattle.vx_machine_steps.specs.Moves.{TreeMove, all_paths}
 use Rattle.vx_machine_steps.specs.Runs.{acts_of, done}
@@ -35,7 +36,7 @@ module _ (g : Write) (taken : List ChunkData) (f : Future) (seen : List Note) (h
   fits_in : raised_in (acts_of r.moves) + m.act.raises ≤ (planned g taken f).reserved
   fits_in =
       let a : done raised_in r.tree ≡ done raised_in (begin g taken f) + raised_in (acts_of r.moves) = sum_raised.grows g.setting (depth g) (begin g taken f) r.tree r.moves (runs g taken f seen history tracker r) in
-      let b : done raised_in (begin g taken f) ≡ 0 = raised_start (depth g) (walk form_nodes g.way g.type) g.mark (taken ++ f.later) f.fits in
+      let b : done raised_in (begin g taken f) ≡ 0 = raised_start (depth g) (walk form_nodes g.way g.type) g.mark root_outset (taken ++ f.later) f.fits in
       let c : done raised_in m.after ≡ done raised_in r.tree + m.act.raises = move_raised g.setting (all_paths r.tree) (depth g) r.tree m i in
       let d : done raised_in m.after ≤ read g.setting raise_reading (depth g) 0 [] m.after = sum_raised.within g.setting (depth g) m.after in
       let e : read g.setting raise_reading (depth g) 0 [] m.after ≡ (planned g taken f).reserved = move_reads g.setting raise_reading (depth g) r.tree m (stands g taken f seen history tracker r) i
@@ -59,7 +60,7 @@ moves_are_counted g taken f seen history tracker r m i = counted g taken f seen 
 
 pub start_is_counted : StartIsCounted
 start_is_counted g f n i = (start_is_planned g.setting g.way g.type g.mark f.later f.fits).starts n
-    (start_opens g.setting (depth g) (walk form_nodes g.way g.type) g.mark f.later f.fits n i)
+    (start_opens g.setting (depth g) (walk form_nodes g.way g.type) g.mark root_outset f.later f.fits n i)
 
 -- the batches taken are all of the type
 

@@ -1,30 +1,26 @@
 -- What a write has appended, and what stands where all is done.
-use Rattle.std.proofs.Common.{◌≡◌, ◌+◌, ◌∷◌, ◌++◌, ◌∙◌, ℕ, Bool, true, false, not, List, map, None, refl, sym, ap, subst, arith, []}
+use Rattle.std.proofs.Common.{◌≡◌, ◌+◌, ◌++◌, ◌∙◌, ℕ, Bool, true, false, not, List, map, refl, sym, ap, subst, arith, []}
 use Rattle.vx_model.specs.ChunkData.{ChunkData}
-use Rattle.vx_path.specs.Lists.{In}
-use Rattle.vx_tasks.specs.Task.{Forest, refuses_in}
-use Rattle.vx_tasks.specs.Task.Forest.{Bare, Node}
+use Rattle.vx_tasks.specs.Task.{refuses_in}
 use Rattle.vx_tasks.specs.State.{left}
-use Rattle.vx_tasks.specs.Rules.{AtLeast, NoneRefuses}
+use Rattle.vx_tasks.specs.Rules.{NoneRefuses}
 use Rattle.vx_tasks.specs.Run.{Note}
 use Rattle.vx_tasks.specs.Runs.{first_batch}
 use Rattle.vx_tasks.proofs.Runs.{at_the_end}
 use Rattle.vx_tasks.proofs.Scripts.{no_true}
 use Rattle.vx_plan.specs.PlanData.{Pair}
 use Rattle.vx_plan.specs.Number.{sorted}
-use Rattle.vx_machine_turns.specs.Acts.{any_refuses, raised_in, lowered_in}
-use Rattle.vx_machine_turns.specs.Readings.{unread, pair_reading, fault_reading, layout_reading, raise_reading, lower_reading}
+use Rattle.vx_machine_turns.specs.Acts.{raised_in, lowered_in}
+use Rattle.vx_machine_turns.specs.Readings.{fault_reading, layout_reading, raise_reading, lower_reading}
 use Rattle.vx_machine_turns.specs.Plain.{task_of, script_reading}
 use Rattle.vx_machine_turns.specs.Source.{source_acts, source_seed}
-use Rattle.vx_machine_turns.specs.Fuels.{less}
 use Rattle.vx_machine_turns.specs.Forms.{form_nodes}
 use Rattle.vx_machine_turns.proofs.WholeLaws.{source_is_silent}
 use Rattle.vx_strategy_spec.specs.Walk.{walk}
-use Rattle.vx_machine_steps.specs.Tree.{Tree, read, forest, counts}
-use Rattle.vx_machine_steps.specs.Moves.{all_paths, all_over, view}
-use Rattle.vx_machine_steps.specs.Runs.{acts_of, appended, done}
-use Rattle.vx_machine_steps.specs.Start.{root_seed}
-use Rattle.vx_machine_steps.specs.StartPlanned.{started}
+use Rattle.vx_named_tasks.specs.Names.{onward, root_outset}
+use Rattle.vx_machine_steps.specs.Tree.{read, forest, counts}
+use Rattle.vx_machine_steps.specs.Moves.{all_over, view}
+use Rattle.vx_machine_steps.specs.Runs.{acts_of, done}
 use Rattle.vx_machine_steps.proofs.Joins.{refuses-plain}
 use Rattle.vx_machine_steps.proofs.Laws.{end_is_free, over_is_done}
 use Rattle.vx_machine_steps.proofs.Unrefused.{none_refused}
@@ -33,8 +29,8 @@ use Rattle.vx_machine_steps.proofs.Start.{start_reads}
 use Rattle.vx_machine_steps.proofs.Summed.{sum_raised, sum_lowered, raised_start, lowered_start}
 use Rattle.vx_machine_promises.specs.Write.{Write, Future, depth, begin, scripts, planned}
 use Rattle.vx_machine_promises.specs.Reached.{Reached}
-use Rattle.vx_machine_promises.specs.Promises.{HistoryIsFirst, Ended, EndIsPlanned}
-use Rattle.vx_machine_promises.proofs.Standing.{at_start, runs, leads, stands, leads_on, reads}
+use Rattle.vx_machine_promises.specs.Promises.{HistoryIsFirst, EndIsPlanned}
+use Rattle.vx_machine_promises.proofs.Standing.{at_start, runs, stands, leads_on, reads}
 use Rattle.vx_machine_promises.proofs.Noting.{nothing_left}
 
 pub history_is_first : HistoryIsFirst
@@ -54,7 +50,7 @@ module _ (g : Write) (taken : List ChunkData) (f : Future) (seen : List Note) (h
 
   -- the source refuses where a batch doesn't fit
   fits : f.fits ≡ true
-  fits = not_false f.fits (sym (source_is_silent first_batch (taken ++ f.later) f.fits).1 ∙ sym (refuses-plain 1 (source_acts first_batch (taken ++ f.later) f.fits)) ∙ own)
+  fits = not_false f.fits (sym (source_is_silent (onward first_batch) (taken ++ f.later) f.fits).1 ∙ sym (refuses-plain 1 (source_acts first_batch (taken ++ f.later) f.fits)) ∙ own)
     where
       own : refuses_in (task_of (source_seed (walk form_nodes g.way g.type) g.mark) (source_acts first_batch (taken ++ f.later) f.fits)).script ≡ false
       own = (subst NoneRefuses (start_reads script_reading g.setting (depth g) (walk form_nodes g.way g.type) g.mark (taken ++ f.later) f.fits) none).0
@@ -68,7 +64,7 @@ module _ (g : Write) (taken : List ChunkData) (f : Future) (seen : List Note) (h
   all_raised : raised_in (acts_of r.moves) ≡ (planned g taken f).reserved
   all_raised =
       let a : done raised_in r.tree ≡ done raised_in (begin g taken f) + raised_in (acts_of r.moves) = sum_raised.grows g.setting (depth g) (begin g taken f) r.tree r.moves (runs g taken f seen history tracker r) in
-      let b : done raised_in (begin g taken f) ≡ 0 = raised_start (depth g) (walk form_nodes g.way g.type) g.mark (taken ++ f.later) f.fits in
+      let b : done raised_in (begin g taken f) ≡ 0 = raised_start (depth g) (walk form_nodes g.way g.type) g.mark root_outset (taken ++ f.later) f.fits in
       let c : done raised_in r.tree ≡ (planned g taken f).reserved = sum_raised.ends g.setting (depth g) r.tree left_none ∙ reads g taken f seen history tracker r raise_reading
       ∙ (at_start g taken f seen history tracker r).raises in
       omega (arith, a, b, c)
@@ -76,7 +72,7 @@ module _ (g : Write) (taken : List ChunkData) (f : Future) (seen : List Note) (h
   all_lowered : lowered_in (acts_of r.moves) ≡ (planned g taken f).reserved
   all_lowered =
       let a : done lowered_in r.tree ≡ done lowered_in (begin g taken f) + lowered_in (acts_of r.moves) = sum_lowered.grows g.setting (depth g) (begin g taken f) r.tree r.moves (runs g taken f seen history tracker r) in
-      let b : done lowered_in (begin g taken f) ≡ 0 = lowered_start (depth g) (walk form_nodes g.way g.type) g.mark (taken ++ f.later) f.fits in
+      let b : done lowered_in (begin g taken f) ≡ 0 = lowered_start (depth g) (walk form_nodes g.way g.type) g.mark root_outset (taken ++ f.later) f.fits in
       let c : done lowered_in r.tree ≡ (planned g taken f).reserved = sum_lowered.ends g.setting (depth g) r.tree left_none ∙ reads g taken f seen history tracker r lower_reading
       ∙ (at_start g taken f seen history tracker r).lowers fits in
       omega (arith, a, b, c)

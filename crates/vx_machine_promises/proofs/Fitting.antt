@@ -1,21 +1,19 @@
 -- Of a valid input nothing is refused, and each count fits.
-use Rattle.std.proofs.Common.{◌≡◌, ◌+◌, ◌^◌, ◌<◌, ◌≤◌, ◌∷◌, ◌++◌, ◌∙◌, ℕ, suc, false, inl, inr, List, length, Option, Some, None, refl, sym, ap, subst, arith, length-append, []}
-use Rattle.vx_model.specs.ChunkData.{ChunkData}
+use Rattle.std.proofs.Common.{◌≡◌, ◌+◌, ◌^◌, ◌<◌, ◌≤◌, ◌∷◌, ◌++◌, ◌∙◌, ℕ, false, inl, inr, List, length, Option, Some, None, refl, sym, ap, subst, arith, length-append, []}
 use Rattle.vx_path.specs.Lists.{In}
 use Rattle.vx_path.proofs.Sort.{length-sort_by}
-use Rattle.vx_tasks.specs.Run.{Note}
-use Rattle.vx_plan.specs.PlanData.{Pair, What, Fault}
+use Rattle.vx_plan.specs.PlanData.{What, Fault}
 use Rattle.vx_plan.specs.Number.{sorted, path_of}
 use Rattle.vx_plan.specs.Valid.{Fit, Has}
-use Rattle.vx_machine_turns.specs.Acts.{refuses, written_by}
+use Rattle.vx_machine_turns.specs.Acts.{refuses}
 use Rattle.vx_machine_turns.specs.Planned.{AtMost}
 use Rattle.vx_machine_steps.specs.Tree.{Tree}
-use Rattle.vx_machine_steps.specs.Moves.{TreeMove, machine_moves}
+use Rattle.vx_machine_steps.specs.Moves.{TreeMove}
 use Rattle.vx_machine_steps.specs.Runs.{Runs, appended}
 use Rattle.vx_machine_steps.proofs.Sorted.{appended_first}
-use Rattle.vx_machine_promises.specs.Write.{Write, Future, depth, begin, planned}
-use Rattle.vx_machine_promises.specs.Reached.{Reached, moves_at}
-use Rattle.vx_machine_promises.specs.Promises.{Counted, Sound, ValidIsSound, AppendsFit}
+use Rattle.vx_machine_promises.specs.Write.{Write, depth, begin, planned}
+use Rattle.vx_machine_promises.specs.Reached.{moves_at}
+use Rattle.vx_machine_promises.specs.Promises.{Counted, ValidIsSound, AppendsFit}
 use Rattle.vx_machine_promises.proofs.Standing.{at_start, runs}
 use Rattle.vx_machine_promises.proofs.Stepping.{appended_more}
 use Rattle.vx_machine_promises.proofs.Causing.{refusals_have_cause, counted}

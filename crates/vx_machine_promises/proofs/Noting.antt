@@ -1,5 +1,5 @@
 -- What was seen of a write's steps, and how many there are.
-use Rattle.std.proofs.Common.{◌≡◌, ◌+◌, ◌<◌, ◌⊎◌, ◌∷◌, ◌∙◌, ℕ, suc, true, List, map, length, Some, refl, sym, ap, subst, inl, inr, ⊎_elim, arith, []}
+use Rattle.std.proofs.Common.{◌≡◌, ◌<◌, ◌⊎◌, ◌∙◌, ℕ, true, List, map, length, Some, sym, ap, subst, inl, inr, ⊎_elim}
 use Rattle.vx_model.specs.ChunkData.{ChunkData}
 use Rattle.vx_path.specs.Lists.{In}
 use Rattle.vx_path.proofs.Lists.{in_map}
@@ -12,9 +12,9 @@ use Rattle.vx_cut_laws.specs.Cut.{cut}
 use Rattle.vx_cut_laws.proofs.Runs.{same_trace, refused_early, cut_is_done}
 use Rattle.vx_plan.specs.PlanData.{Pair}
 use Rattle.vx_machine_turns.specs.Acts.{refuses}
-use Rattle.vx_machine_steps.specs.Tree.{Tree, forest, counts}
+use Rattle.vx_machine_steps.specs.Tree.{counts}
 use Rattle.vx_machine_steps.specs.Moves.{TreeMove, machine_moves, all_over, view}
-use Rattle.vx_machine_steps.specs.Runs.{pick_of, notes, picks_after}
+use Rattle.vx_machine_steps.specs.Runs.{pick_of, picks_after}
 use Rattle.vx_machine_steps.proofs.Laws.{moves_agree, over_is_done}
 use Rattle.vx_machine_steps.proofs.Noted.{notes_agree, notes_end}
 use Rattle.vx_machine_promises.specs.Write.{Write, Future, depth, begin, scripts}

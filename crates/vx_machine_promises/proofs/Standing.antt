@@ -1,16 +1,15 @@
 -- The state that a write has come to: it stands, and is one of the theory.
-use Rattle.std.proofs.Common.{◌≡◌, ◌+◌, ◌<◌, ◌∷◌, ◌++◌, ◌∙◌, ℕ, suc, false, List, map, length, refl, sym, ap, subst, arith, []}
-use Rattle.vx_path.specs.Lists.{In}
+use Rattle.std.proofs.Common.{◌≡◌, ◌+◌, ◌∷◌, ◌++◌, ◌∙◌, ℕ, suc, List, map, length, refl, ap, subst, []}
 use Rattle.vx_tasks.specs.State.{left}
 use Rattle.vx_tasks.specs.State.Counts.{Zeros}
-use Rattle.vx_tasks.specs.Run.{Note, Leads, work, later_picks}
+use Rattle.vx_tasks.specs.Run.{Note, Leads, later_picks}
 use Rattle.vx_model.specs.ChunkData.{ChunkData}
 use Rattle.vx_plan.specs.PlanData.{Setting, Pair}
 use Rattle.vx_machine_turns.specs.Fuels.{Fuel}
 use Rattle.vx_machine_turns.specs.Readings.{Reading}
 use Rattle.vx_machine_steps.specs.Tree.{Tree, read, forest, counts}
-use Rattle.vx_machine_steps.specs.Moves.{TreeMove, machine_moves, all_over, view}
-use Rattle.vx_machine_steps.specs.Runs.{Runs, RunsBy, notes}
+use Rattle.vx_machine_steps.specs.Moves.{TreeMove, view}
+use Rattle.vx_machine_steps.specs.Runs.{Runs, notes}
 use Rattle.vx_machine_steps.specs.Stands.{Stands}
 use Rattle.vx_machine_steps.specs.StartPlanned.{IsPlanned}
 use Rattle.vx_machine_steps.proofs.Laws.{runs_lead, runs_read}
@@ -18,7 +17,7 @@ use Rattle.vx_machine_steps.proofs.Noted.{notes_agree}
 use Rattle.vx_machine_steps.proofs.Ready.{some_move, moves_lower, runs_count}
 use Rattle.vx_machine_steps.proofs.StartPlanned.{start_is_planned}
 use Rattle.vx_machine_promises.specs.Write.{Write, Future, depth, begin, scripts}
-use Rattle.vx_machine_promises.specs.Reached.{Reached, moves_at}
+use Rattle.vx_machine_promises.specs.Reached.{Reached}
 use Rattle.vx_machine_promises.specs.Promises.{SomethingIsReady, WorkFalls, WorkIsShared}
 
 notes_length : (s : Setting) (d : Fuel) (t : Tree) (picks : List ℕ) (ms : List TreeMove) → length (notes s d t picks ms) ≡ length ms

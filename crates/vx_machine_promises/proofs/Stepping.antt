@@ -1,18 +1,17 @@
 -- One step more of a write.
-use Rattle.std.proofs.Common.{◌≡◌, ◌+◌, ◌∷◌, ◌++◌, ◌∙◌, ℕ, suc, Bool, false, List, map, length, refl, sym, ap, subst, arith, append_assoc, append-nil, []}
+use Rattle.std.proofs.Common.{◌≡◌, ◌+◌, ◌∷◌, ◌++◌, ◌∙◌, ℕ, Bool, false, List, length, refl, sym, ap, subst, arith, append_assoc, append-nil, []}
 use Rattle.vx_model.specs.ChunkData.{ChunkData}
 use Rattle.vx_tasks.specs.Run.{Note, nth}
 use Rattle.vx_tasks.specs.Runs.{noted}
 use Rattle.vx_tasks.proofs.Scripts.{no_true}
 use Rattle.vx_plan.specs.PlanData.{Pair}
 use Rattle.vx_machine_turns.specs.Acts.{written_by, raised_in, lowered_in}
-use Rattle.vx_machine_steps.specs.Tree.{Tree}
 use Rattle.vx_machine_steps.specs.Moves.{TreeMove, machine_moves}
 use Rattle.vx_machine_steps.specs.Runs.{pick_of, RunsBy, notes, picks_after, acts_of, appended}
 use Rattle.vx_machine_steps.specs.StartPlanned.{started}
 use Rattle.vx_machine_steps.proofs.Noted.{notes_grow}
 use Rattle.vx_machine_promises.specs.Write.{Write, Future, Open, Answer, unasked, came, over, depth, begin, taken_by, heard_by, before}
-use Rattle.vx_machine_promises.specs.Reached.{Reached, moves_at, pick_at, Stepped, Underway}
+use Rattle.vx_machine_promises.specs.Reached.{Reached, moves_at, pick_at, Stepped}
 use Rattle.vx_machine_promises.specs.Promises.{StartIsReached, StepIsReached}
 use Rattle.vx_machine_promises.proofs.Standing.{as_many}
 
@@ -97,16 +96,3 @@ open_before : (heard : Bool) (a : Answer) (f : Future) → Asked heard a → Ope
 open_before heard unasked f k o = o
 open_before heard (came b) f k o = λ h. absurd (no_true k h)
 open_before heard over f k o = λ h. o refl
-
-pub underway_then : (Shows Then : Future → Tree → Type 0) (g : Write) (taken : List ChunkData) (heard : Bool) (a : Answer) (seen : List Note) (history history_then : List Pair) (tracker tracker_then : ℕ) (n : Note)
-    → Asked heard a → Underway Shows g taken heard seen history tracker
-    → ((f : Future) (t : Tree) → Open (heard_by heard a) f → Shows (before a f) t → (st : Stepped g t seen n history history_then tracker tracker_then) × Then f st.move.after)
-    → Underway Then g (taken_by taken a) (heard_by heard a) (seen ++ (n ∷ [])) history_then tracker_then
-underway_then Shows Then g taken heard a seen history history_then tracker tracker_then n k u goes f o = on (u (before a f) (open_before heard a f k o))
-  where
-    on : (r : Reached g taken (before a f) seen history tracker) × Shows (before a f) r.tree → (q : Reached g (taken_by taken a) f (seen ++ (n ∷ [])) history_then tracker_then) × Then f q.tree
-    on (r, shown) =
-        let s : (st : Stepped g r.tree seen n history history_then tracker tracker_then) × Then f st.move.after = goes f r.tree o shown in
-        let q : (q : Reached g (taken_by taken a) f (seen ++ (n ∷ [])) history_then tracker_then) × (q.tree ≡ s.0.move.after) =
-        step_is_reached g taken a f seen history history_then tracker tracker_then n r s.0 in
-        (q.0, subst (Then f) (sym q.1) s.1)

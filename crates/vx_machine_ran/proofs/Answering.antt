@@ -22,7 +22,7 @@ use Rattle.vx_write_answer.specs.declared.step.Step.{Step}
 use Rattle.vx_write_answer.specs.declared.error.WriteError.{WriteError}
 use Rattle.vx_write_answer.specs.declared.error.WriteError.TheVariants.{SourceFault, SinkFault, CompressFault, BatchType, NotStruct, DuplicateField, ManyChunks, EmptyList, ZoneCut, ForbiddenAggregate, ForbiddenEncoding, TooLarge, OutOfMemory, Stopped}
 use Rattle.vx_machine_promises.specs.Write.{Write, Future, Open, planned}
-use Rattle.vx_machine_view.specs.Images.{Careful}
+use Rattle.vx_machine_state.specs.Images.{Careful}
 use Rattle.vx_machine_runs.specs.Runs.{scheduled}
 use Rattle.vx_machine_runs.specs.Steps.{StartIsCaused}
 use Rattle.vx_machine_runs.specs.Tracked.{TrackerComesWithin}
@@ -34,7 +34,6 @@ use Rattle.vx_machine.specs.Context.{setting_of}
 use Rattle.vx_machine.specs.Outcome.{Kept}
 use Rattle.vx_machine.specs.TaskStarting.{FormRefused}
 use Rattle.vx_machine.specs.TaskView.{form_at}
-use Rattle.vx_machine.proofs.BuiltSteps.{all_built}
 use Rattle.vx_machine_ran.specs.Ran.{write_by, OwnSink, own_sink}
 use Rattle.vx_machine_ran.specs.RefusedAct.{StartRefuses}
 use Rattle.vx_machine_ran.specs.Traced.{tasks_of, StepsBegin}
@@ -98,7 +97,7 @@ module _ (faults : StartFaultStands) (agree : StartFaultsAgree) (counts : StartI
   form_cause : (e : WriteError) → FormRefused (allowed_in ctx) (form_at w t) m root_eof e → Cause e
   form_cause NotStruct h = (refl, λ f. fault_stands not_struct f h, starts_with not_struct h)
   form_cause (DuplicateField name) h = (refl, λ f. fault_stands (duplicate_field name) f h, starts_with (duplicate_field name) h)
-  form_cause (TooLarge n) h = (refl, λ f. inr (inl (subst (λ z. IsPast z (planned g [] f).numbers) (sym h.0) (counts g f h.1.0 (all_built w) h.1.1 h.1.2))), h)
+  form_cause (TooLarge n) h = (refl, λ f. inr (inl (subst (λ z. IsPast z (planned g [] f).numbers) (sym h.0) (counts g f h.1.0 h.1.1 h.1.2))), h)
   form_cause OutOfMemory h = (refl, λ f. tt, tt)
   form_cause SourceFault h = absurd h
   form_cause SinkFault h = absurd h

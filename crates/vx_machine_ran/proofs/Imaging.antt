@@ -5,7 +5,7 @@ use Rattle.vx_model.specs.ChunkData.{ChunkData, piece_type, is_sound}
 use Rattle.vx_layout_spec.specs.Real.{is_real, Whole, Of, SameRows}
 use Rattle.vx_plan.specs.Valid.{Keeps}
 use Rattle.vx_sink.specs.declared.context.LayoutWriterContext.{LayoutWriterContext}
-use Rattle.vx_machine_view.specs.Images.{Careful, images_of}
+use Rattle.vx_machine_state.specs.Images.{Careful, images_of}
 use Rattle.vx_machine_view.proofs.Imaging.{images_are_careful}
 use Rattle.vx_machine.specs.Context.{setting_of}
 

@@ -20,8 +20,8 @@ use Rattle.vx_machine_steps.specs.Runs.{RunsBy, notes}
 use Rattle.vx_machine_steps.specs.StartPlanned.{started}
 use Rattle.vx_machine_promises.specs.Write.{Write, Future, Answer, unasked, came, over, depth, begin, taken_by, heard_by, before}
 use Rattle.vx_machine_promises.specs.Reached.{Reached, moves_at}
-use Rattle.vx_machine_view.specs.Images.{Careful}
-use Rattle.vx_machine_view.specs.State.{Tasks}
+use Rattle.vx_machine_state.specs.Images.{Careful}
+use Rattle.vx_machine_state.specs.State.{Tasks}
 use Rattle.vx_machine_view.specs.Machine.{WholeStep, reading, source_step, machine_ids}
 use Rattle.vx_machine_view.specs.Steps.{AllPairs}
 use Rattle.vx_machine_view.specs.Underway.{Showing, ready_steps}

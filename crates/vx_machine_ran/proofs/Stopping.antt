@@ -24,7 +24,7 @@ use Rattle.vx_write_answer.specs.declared.step.Step.{Step}
 use Rattle.vx_write_answer.specs.declared.error.WriteError.{WriteError}
 use Rattle.vx_write_answer.specs.declared.error.WriteError.TheVariants.{SourceFault, SinkFault, CompressFault, BatchType, NotStruct, DuplicateField, ManyChunks, EmptyList, ZoneCut, ForbiddenAggregate, ForbiddenEncoding, TooLarge, OutOfMemory, Stopped}
 use Rattle.vx_machine_promises.specs.Write.{Write, Future, Open, Answer, unasked, came, over, scripts, planned, taken_by, heard_by, before, begin}
-use Rattle.vx_machine_view.specs.Images.{Careful}
+use Rattle.vx_machine_state.specs.Images.{Careful}
 use Rattle.vx_machine_view.specs.Machine.{Phase, reading, giving, closing, finished, Machine, may_source, WholeStep, source_step, whole_steps, is_finished, machine_ids}
 use Rattle.vx_machine_steps.specs.Moves.{TreeMove}
 use Rattle.vx_machine_view.specs.Steps.{AllPairs}

@@ -14,7 +14,7 @@ use Rattle.vx_sink.specs.ContextView.{is_marked}
 use Rattle.vx_write_answer.specs.declared.step.Step.{Step}
 use Rattle.vx_machine_steps.specs.Runs.{picks_after}
 use Rattle.vx_machine_promises.specs.Write.{Write, Future, Open, Answer, unasked, scripts, taken_by, heard_by}
-use Rattle.vx_machine_view.specs.Images.{Careful}
+use Rattle.vx_machine_state.specs.Images.{Careful}
 use Rattle.vx_machine_view.specs.Machine.{WholeStep, is_finished, machine_ids}
 use Rattle.vx_machine_view.specs.Steps.{AllPairs}
 use Rattle.vx_machine_view.specs.Underway.{ready_steps}
@@ -31,7 +31,6 @@ use Rattle.vx_machine.specs.Calls.{reads_in, appends_in}
 use Rattle.vx_machine.specs.Context.{setting_of}
 use Rattle.vx_machine.specs.Outcome.{action_of}
 use Rattle.vx_machine.specs.Run.{At, ready_at}
-use Rattle.vx_machine.proofs.BuiltSteps.{all_built}
 use Rattle.vx_machine.proofs.Going.{pick_here}
 use Rattle.vx_machine_ran.specs.Ran.{write_by, Onward}
 use Rattle.vx_machine.specs.Progress.{ShowsNote}
@@ -109,7 +108,7 @@ module _ (ctx : LayoutWriterContext) (image : ℕ → ChunkData → ChunkData) (
 
   -- the write is under way there by the schedule
   by_schedule : RunByIsUnderway → UnderwayAt (scheduled g schedule) first o.notes o.stand
-  by_schedule run = run (scheduled g schedule) first o.notes o.stand law (all_built w) clean o.picked (schedule_is_free g first schedule (outset g) o.stand o.notes o.led)
+  by_schedule run = run (scheduled g schedule) first o.notes o.stand law clean o.picked (schedule_is_free g first schedule (outset g) o.stand o.notes o.led)
 
   pub traced_whole : RunByIsUnderway → NotesAreWhole → is_finished o.stand.machine ≡ true → o.stand.heard ≡ true → IsTraced (setting_of ctx image) w t (is_marked ctx) schedule o.stand.taken steps
   traced_whole run whole fin heard = record {

@@ -21,9 +21,9 @@ use Rattle.vx_sink.specs.declared.context.LayoutWriterContext.{LayoutWriterConte
 use Rattle.vx_sink.specs.ContextView.{is_marked}
 use Rattle.vx_write_answer.specs.declared.step.Step.{Step}
 use Rattle.vx_machine_promises.specs.Write.{Write}
-use Rattle.vx_machine_view.specs.Images.{Careful}
-use Rattle.vx_machine_view.specs.Acts.{layouts_in}
-use Rattle.vx_machine_view.specs.Start.{first_indices}
+use Rattle.vx_machine_state.specs.Images.{Careful}
+use Rattle.vx_machine_state.specs.Acts.{layouts_in}
+use Rattle.vx_machine_state.specs.Start.{first_indices}
 use Rattle.vx_machine_view.specs.Machine.{Machine, is_finished}
 use Rattle.vx_machine_view.specs.Whole.{form_of}
 use Rattle.vx_machine_runs.specs.Runs.{outset, scheduled, UnderwayAt, RunByIsUnderway, RunIsUnderway}
@@ -40,7 +40,6 @@ use Rattle.vx_machine_ran.specs.Ran.{write_by, OwnSink, Onward}
 use Rattle.vx_machine_ran.specs.Runs.{AllDone, DoneIsWritten, RunsLeaveSinks}
 use Rattle.vx_machine_ran.specs.Traced.{IsTraced, Traced}
 use Rattle.vx_machine_ran.specs.Written.{Planned, Wrote}
-use Rattle.vx_machine.proofs.BuiltSteps.{all_built}
 use Rattle.vx_machine_ran.proofs.Imaging.{keeps_careful}
 use Rattle.vx_machine_ran.proofs.Leading.{runs_are_led}
 use Rattle.vx_machine_ran.proofs.Tracing.{appends_are, traced_whole}
@@ -75,7 +74,7 @@ module _ (ctx : LayoutWriterContext) (image : ℕ → ChunkData → ChunkData) (
       (schedule : List ℕ) (steps : List Step) (y : At) (o : Onward g to_come borrow first before schedule 0 (outset g) steps y) where
     -- the write is under way there, by the places that were picked
     pub under : RunIsUnderway → UnderwayAt (scheduled g (places o.notes)) first o.notes o.stand
-    under run = run (scheduled g (places o.notes)) first o.notes o.stand law (all_built w) clean refl (schedule_is_free g first (places o.notes) (outset g) o.stand o.notes o.led)
+    under run = run (scheduled g (places o.notes)) first o.notes o.stand law clean refl (schedule_is_free g first (places o.notes) (outset g) o.stand o.notes o.led)
 
     abbrev End : Layout → Type 0
     End layout = Whole (scheduled g (places o.notes)) first o.stand × (is_finished o.stand.machine ≡ true) × (layout_data layout ≡ numbered (plan_of g o.stand.taken true) first)
@@ -102,7 +101,7 @@ module _ (ctx : LayoutWriterContext) (image : ℕ → ChunkData → ChunkData) (
     wrote_taken fit back keeps starts layout (h, fin, laid) next now s =
         let p : Plan = plan_of g o.stand.taken true in
         let all : AllOf t o.stand.taken = taken_are_whole g first o.notes o.stand o.led o.whole in
-        let numbers : Fit p.numbers = fit g first o.notes o.stand law (all_built w) clean o.led fin starts o.counts in
+        let numbers : Fit p.numbers = fit g first o.notes o.stand law clean o.led fin starts o.counts in
         let some : length o.stand.history ≡ length p.pairs = ap length h.appended ∙ length-sort_by path_of p.pairs in
         record {
           laid = laid;

@@ -15,7 +15,7 @@ use Rattle.vx_sink.specs.ContextView.{allowed_in, is_marked, counted}
 use Rattle.vx_write_answer.specs.declared.step.Step.{Step}
 use Rattle.vx_write_answer.specs.declared.error.WriteError.{WriteError}
 use Rattle.vx_write_answer.specs.declared.error.WriteError.TheVariants.{SourceFault, SinkFault, CompressFault, BatchType, OutOfMemory}
-use Rattle.vx_machine_view.specs.Start.{first_indices}
+use Rattle.vx_machine_state.specs.Start.{first_indices}
 use Rattle.vx_machine_view.specs.Machine.{start}
 use Rattle.vx_machine.specs.Context.{Allowed, setting_of}
 use Rattle.vx_machine.specs.Outcome.{AllFit, Kept}

@@ -5,9 +5,9 @@ pub mod Tracking
 pub mod Written
 pub mod Runs
 pub mod Answered
-pub use Rattle.vx_machine_view.specs.Images
+pub use Rattle.vx_machine_state.specs.Images
 pub use Rattle.vx_machine_view.specs.Machine
-pub use Rattle.vx_machine_view.specs.Start
+pub use Rattle.vx_machine_state.specs.Start
 pub use Rattle.vx_plan.specs.Number
 pub use Rattle.vx_plan.specs.PlanData
 pub use Rattle.vx_plan.specs.SourcePlan

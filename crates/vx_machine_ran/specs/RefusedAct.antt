@@ -17,7 +17,7 @@ use Rattle.vx_machine_steps.specs.StartPlanned.{machine_fuel, started}
 use Rattle.vx_write_answer.specs.declared.step.Step.{Step}
 use Rattle.vx_write_answer.specs.declared.error.WriteError.{WriteError}
 use Rattle.vx_write_answer.specs.declared.error.WriteError.TheVariants.{SourceFault, SinkFault, CompressFault, BatchType, NotStruct, DuplicateField, ManyChunks, EmptyList, ZoneCut, ForbiddenAggregate, ForbiddenEncoding, TooLarge, OutOfMemory, Stopped}
-use Rattle.vx_machine_view.specs.Start.{first_indices}
+use Rattle.vx_machine_state.specs.Start.{first_indices}
 use Rattle.vx_machine.specs.Outcome.{action_of, Past}
 use Rattle.vx_machine.specs.TaskStarting.{TooFar}
 use Rattle.vx_machine.specs.TaskView.{form_at}

@@ -17,10 +17,10 @@ use Rattle.vx_plan.specs.SourcePlan.{of_schema}
 use Rattle.vx_layout_spec.specs.Real.{Of}
 use Rattle.vx_plan.specs.Valid.{OfSchema, AllOf}
 use Rattle.vx_machine_promises.specs.Write.{Write, Answer, unasked, came, over, taken_by, heard_by}
-use Rattle.vx_machine_view.specs.Zoned.{Zoner, Zones}
-use Rattle.vx_machine_view.specs.State.{Next, put, hand_on, press, probe, open_run, end_run, append, shut_kids, join_kids, start_table, leave_kid, Mind, no_chunk, one_chunk, by_chunk, by_column, by_list, by_block, by_size, as_one, by_image, as_is, by_probe, asking, by_run, by_zone, ending, passing, made, Desk, Tasks, no_tasks, task_then}
-use Rattle.vx_machine_view.specs.Acts.{count, column_count, probed, take_chunk, end_columns, end_lists, end_zones, take_end, do_take, do_act}
-use Rattle.vx_machine_view.specs.Moves.{has_room, Step, may_act, own_step, in_kids, in_rest, steps}
+use Rattle.vx_machine_state.specs.Zoned.{Zoner, Zones}
+use Rattle.vx_machine_state.specs.State.{Next, put, hand_on, press, probe, open_run, end_run, append, shut_kids, join_kids, start_table, leave_kid, Mind, no_chunk, one_chunk, by_chunk, by_column, by_list, by_block, by_size, as_one, by_image, as_is, by_probe, asking, by_run, by_zone, ending, passing, made, Desk, Tasks, no_tasks, task_then}
+use Rattle.vx_machine_state.specs.Acts.{count, column_count, probed, take_chunk, end_columns, end_lists, end_zones, take_end, do_take, do_act}
+use Rattle.vx_machine_state.specs.Moves.{has_room, Step, may_act, own_step, in_kids, in_rest, steps}
 use Rattle.vx_machine_view.specs.Machine.{Phase, reading, giving, closing, finished, may_source, WholeStep, source_step, in_root, machine_ids}
 use Rattle.vx_machine_view.proofs.Words.{typed_is}
 use Rattle.vx_machine_runs.specs.Runs.{Stand, outset, Asking, TypedAnswer, BeforeEnd, Chosen, Done, Led}

@@ -2,7 +2,7 @@
 use Rattle.std.proofs.Common.{◌≡◌, ◌+◌, ◌^◌, ◌%◌, ◌<◌, ◌∷◌, ◌++◌, ◌∙◌, ℕ, true, List, length, refl, sym, ap, subst, inl, inr, ⊎_elim, arith, append_assoc, append-nil, None, []}
 use Rattle.vx_path.specs.Lists.{In}
 use Rattle.vx_path.specs.Path.{root_eof}
-use Rattle.vx_machine_view.specs.Images.{Careful}
+use Rattle.vx_machine_state.specs.Images.{Careful}
 use Rattle.vx_tasks.specs.Run.{Note, nth, first_pick}
 use Rattle.vx_tasks.specs.Runs.{noted}
 use Rattle.vx_plan.specs.PlanData.{Plan}
@@ -17,10 +17,9 @@ use Rattle.vx_machine_steps.proofs.Laws.{over_is_done}
 use Rattle.vx_machine_promises.specs.Write.{Write, Answer, depth, begin, planned, taken_by, heard_by, before}
 use Rattle.vx_machine_promises.specs.Reached.{Reached, Underway, moves_at, pick_at}
 use Rattle.vx_machine_promises.specs.Promises.{StartIsReached, StepIsReached, EndIsPlanned}
-use Rattle.vx_machine_view.specs.Built.{is_built}
-use Rattle.vx_machine_view.specs.Start.{first_indices}
+use Rattle.vx_machine_state.specs.Start.{first_indices}
 use Rattle.vx_machine_view.specs.Machine.{WholeStep}
-use Rattle.vx_machine_view.specs.Reserved.{reserved_by}
+use Rattle.vx_machine_state.specs.Reserved.{reserved_by}
 use Rattle.vx_machine_view.specs.Whole.{form_of}
 use Rattle.vx_machine_view.specs.Underway.{Showing, ready_steps}
 use Rattle.vx_machine_view.proofs.Underway.{write_steps, write_ends}
@@ -40,14 +39,14 @@ use Rattle.vx_machine_runs.proofs.Stepping.{open_before, some_same, asks_so, sta
 abbrev Bounded : ℕ → Write → ℕ → List Note → Stand → Type 0
 Bounded most g first seen x = Underway (λ f t. Showing g first x.taken x.machine f t × AllBelow most (did t)) g x.taken x.heard seen x.history (tracked g x)
 
-start_bounded : StartIsReached → (most : ℕ) (g : Write) (first : ℕ) → is_built g.way ≡ true → start_fault g.setting g.way g.type g.mark ≡ None → AllBelow most (first_indices (form_of g) g.mark root_eof)
+start_bounded : StartIsReached → (most : ℕ) (g : Write) (first : ℕ) → start_fault g.setting g.way g.type g.mark ≡ None → AllBelow most (first_indices (form_of g) g.mark root_eof)
     → Bounded most g first [] (outset g)
-start_bounded reached most g first b s all f o =
+start_bounded reached most g first s all f o =
     let r = reached g f in
     subst (λ z. (r : Reached g [] f [] [] z) × (Showing g first [] (outset g).machine f r.tree × AllBelow most (did r.tree))) (sym (start_tracked g)) (
       r.0,
       subst (λ t. Showing g first [] (outset g).machine f t × AllBelow most (did t)) (sym r.1)
-          (start_shows g (number_of (planned g [] f).pairs first) f b s, λ n i. all n (subst (λ z. In n z) (start_did g [] f b) i)),
+          (start_shows g (number_of (planned g [] f).pairs first) f s, λ n i. all n (subst (λ z. In n z) (start_did g [] f) i)),
     )
 
 -- ---- a step
@@ -98,7 +97,7 @@ counts_so most g first picks x y [] l c = tt
 counts_so most g first picks x y (n ∷ ns) l c = (c.0, counts_so most g first picks l.0 y ns l.2 c.1)
 
 pub numbers_are_counted : StartIsReached → StepIsReached → EndIsPlanned → NumbersAreCounted
-numbers_are_counted began reached planned_end most w first ns y law b s l fin one starts c = on (under (none_later y.heard) (open_none y.heard))
+numbers_are_counted began reached planned_end most w first ns y law s l fin one starts c = on (under (none_later y.heard) (open_none y.heard))
   where
     -- under the schedule that tells the places
     g : Write
@@ -109,7 +108,7 @@ numbers_are_counted began reached planned_end most w first ns y law b s l fin on
 
     under : Bounded most g first ns y
     under = led_bounded reached most g first law [] ns (outset g) y (places_are_picks g first (outset g) y ns by_places) by_places (counts_so most w first (places ns) (outset g) y ns l c)
-        (start_bounded began most g first b s starts)
+        (start_bounded began most g first s starts)
 
     plain : UnderwayAt g first ns y
     plain f o = let r = under f o in (r.0, r.1.0)
@@ -118,7 +117,7 @@ numbers_are_counted began reached planned_end most w first ns y law b s l fin on
     told = none_planned g y.taken y.heard ∙ ap (plan_of g y.taken) (ends_whole planned_end g first ns y plain s fin).heard
 
     on : (r : Reached g y.taken (none_later y.heard) ns y.history (tracked g y)) × (Showing g first y.taken y.machine (none_later y.heard) r.tree × AllBelow most (did r.tree)) → AllBelow most (plan_of g y.taken true).numbers
-    on (r, (shown, below)) n i = by (start_covered g (y.taken ++ []) y.heard b n (subst (λ (z : Plan). In n z.numbers) (sym told) i))
+    on (r, (shown, below)) n i = by (start_covered g (y.taken ++ []) y.heard n (subst (λ (z : Plan). In n z.numbers) (sym told) i))
       where
         over : all_over r.tree ≡ true
         over = (write_ends g first y.taken (none_later y.heard) ns y.history (tracked g y) r y.machine shown fin).0
@@ -136,5 +135,5 @@ fit_each [] h = tt
 fit_each (n ∷ ns) h = (h n (inl refl), fit_each ns (λ k i. h k (inr i)))
 
 pub numbers_fit : StartIsReached → StepIsReached → EndIsPlanned → NumbersFit
-numbers_fit began reached planned_end g first ns y law b s l fin starts c =
-    fit_each (plan_of g y.taken true).numbers (numbers_are_counted began reached planned_end (2 ^ 64) g first ns y law b s l fin (omega arith) starts c)
+numbers_fit began reached planned_end g first ns y law s l fin starts c =
+    fit_each (plan_of g y.taken true).numbers (numbers_are_counted began reached planned_end (2 ^ 64) g first ns y law s l fin (omega arith) starts c)

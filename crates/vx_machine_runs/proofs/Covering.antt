@@ -1,4 +1,4 @@
--- Each number of a built strategy's plan is at most one that its tasks count.
+-- Each number of a plan is at most one that its tasks count.
 use Rattle.std.proofs.Common.{◌≡◌, ◌+◌, ◌≤◌, ◌∷◌, ◌++◌, ◌∙◌, ℕ, suc, inl, inr, ⊎_elim, Bool, true, false, List, length, refl, sym, ap, subst, arith, append_assoc, Option, Some, None, ◌||◌, []}
 use Rattle.std.proofs.lemmas.Bool.{true≢false}
 use Rattle.vx_model.specs.Ty.{Ty, Tys, no_fields, field}
@@ -36,9 +36,9 @@ use Rattle.vx_machine_steps.specs.Tree.{read}
 use Rattle.vx_machine_steps.specs.StartPlanned.{started}
 use Rattle.vx_machine_steps.proofs.Start.{start_reads}
 use Rattle.vx_machine_promises.specs.Write.{Write, depth}
-use Rattle.vx_machine_view.specs.Built.{is_built, Built, AllBuilt}
+use Rattle.vx_machine_view.specs.Suited.{Suited, AllSuited}
 use Rattle.vx_machine_view.specs.Whole.{form_of}
-use Rattle.vx_machine_view.proofs.Building.{built_is_built}
+use Rattle.vx_machine_view.proofs.Suiting.{forms_are_suited}
 use Rattle.vx_machine_view.proofs.Words.{no_cons}
 use Rattle.vx_machine_runs.proofs.Covers.{counted_by, count_reading, all_counted, Covers, most_over, most_in, AllCovered, parent_covers}
 use Rattle.vx_machine_runs.proofs.GroupCovering.{group_covers}
@@ -146,7 +146,7 @@ same_length s g [] (w ∷ ws) h = absurd h
 same_length s g (k ∷ ks) [] h = absurd h
 same_length s g (k ∷ ks) (w ∷ ws) (h, hs) = ap suc (same_length s g ks ws hs)
 
-fields_covered : (s : Setting) (g : Ty → Fuel) (fs : Tys) (ks : List Node) (ls : List Form) → Both (λ t k f. Built f → Covers s k f) fs ks ls → AllEnough g (forms_of ls) → AllBuilt fs (forms_of ls) → (m : Bool)
+fields_covered : (s : Setting) (g : Ty → Fuel) (fs : Tys) (ks : List Node) (ls : List Form) → Both (λ t k f. Suited f → Covers s k f) fs ks ls → AllEnough g (forms_of ls) → AllSuited fs (forms_of ls) → (m : Bool)
     → ColumnsCovered s g (marked m ks) (marked_forms m (forms_of ls))
 fields_covered s g no_fields [] [] h enough b m = tt
 fields_covered s g no_fields [] (l ∷ ls) h enough b m = absurd h
@@ -157,7 +157,7 @@ fields_covered s g (field a t fs) (k ∷ ks) (l ∷ ls) h enough b m =
     ((λ name items ended e n i. (h.0 b.1).covers m name items ended e (g (form_type l)) enough.0 n i), fields_covered s g fs ks ls h.1 enough.1 b.2 m)
 
 writers_covered : (s : Setting) (g : Ty → Fuel) (fs : Tys) (n m : Bool) (v : Node) (f : Form) (ks : List Node) (ls : List Form) → Covers s v f → Enough (g (form_type f)) f
-    → Both (λ t k f. Built f → Covers s k f) fs ks ls → AllEnough g (forms_of ls) → AllBuilt fs (forms_of ls) → ColumnsCovered s g (struct_writers n m v ks) (struct_columns_of n m f (forms_of ls))
+    → Both (λ t k f. Suited f → Covers s k f) fs ks ls → AllEnough g (forms_of ls) → AllSuited fs (forms_of ls) → ColumnsCovered s g (struct_writers n m v ks) (struct_columns_of n m f (forms_of ls))
 writers_covered s g fs true m v f ks ls a b c d q = ((λ name items ended e x i. a.covers m name items ended e (g (form_type f)) b x i), fields_covered s g fs ks ls c d q (m || true))
 writers_covered s g fs false m v f ks ls a b c d q = fields_covered s g fs ks ls c d q (m || false)
 
@@ -169,8 +169,8 @@ columns_covered s g (k ∷ ks) [] h name c xs ended e = absurd h
 columns_covered s g (k ∷ ks) (w ∷ ws) (h, hs) name c xs ended e =
     ((λ n i. h (under name c) (column c xs) ended (inside e) n i), columns_covered s g ks ws hs name (suc c) (other_columns xs) ended (next e))
 
-struct_covers : (s : Setting) (fs : Tys) (n : Bool) (dup : Option (List ℕ)) (v : Node) (f : Form) (ks : List Node) (ls : List Form) → Covers s v f → Both (λ t k f. Built f → Covers s k f) fs ks ls
-    → AllBuilt fs (forms_of ls) → Covers s (struct_node fs n dup v ks) (struct_form fs n dup f (forms_of ls))
+struct_covers : (s : Setting) (fs : Tys) (n : Bool) (dup : Option (List ℕ)) (v : Node) (f : Form) (ks : List Node) (ls : List Form) → Covers s v f → Both (λ t k f. Suited f → Covers s k f) fs ks ls
+    → AllSuited fs (forms_of ls) → Covers s (struct_node fs n dup v ks) (struct_form fs n dup f (forms_of ls))
 struct_covers s fs n (Some a) v f ks ls hv hs b = record { covers = λ m name items ended e d enough x i. absurd i }
 struct_covers s fs n None v f ks ls hv hs b = record { covers = go }
   where
@@ -318,7 +318,7 @@ list_covers s t n es os v a b c h i j = record { covers = go }
 
 -- ---- the whole strategy
 
-all_covers : (s : Setting) → Agree Node Form (plan_nodes s) form_nodes false (λ t k f. Built f → Covers s k f)
+all_covers : (s : Setting) → Agree Node Form (plan_nodes s) form_nodes false (λ t k f. Suited f → Covers s k f)
 all_covers s = record {
   at_flat = λ o t b. flat_covers s o t;
   at_chunked = λ t k l h b. chunked_covers s t k l (h b.1);
@@ -331,8 +331,8 @@ all_covers s = record {
   at_list = λ t n e o v f p w h i j b. list_covers s t n e o v f p w (h b.1) (i b.3) (j b.5);
 }
 
-plan_covered : (s : Setting) (w : StrategyData) (t : Ty) → is_built w ≡ true → Covers s (plan s w t) (walk form_nodes w t)
-plan_covered s w t b = relate Node Form (plan_nodes s) form_nodes false (λ t k f. Built f → Covers s k f) (all_covers s) w (λ e. absurd (true≢false (sym e))) t (built_is_built w t b)
+plan_covered : (s : Setting) (w : StrategyData) (t : Ty) → Covers s (plan s w t) (walk form_nodes w t)
+plan_covered s w t = relate Node Form (plan_nodes s) form_nodes false (λ t k f. Suited f → Covers s k f) (all_covers s) w (λ e. absurd (true≢false (sym e))) t (forms_are_suited w t)
 
 -- ---- the source
 
@@ -356,9 +356,9 @@ source_moves here (b ∷ bs) fits =
     (h.0, inr h.1, omega (arith, l))
 
 -- the numbers of a plan of batches, against what is read off the start of their machine
-pub start_covered : (g : Write) (bs : List ChunkData) (fits : Bool) → is_built g.way ≡ true → (n : ℕ) → In n (source_plan g.setting g.way g.type g.mark bs fits).numbers
+pub start_covered : (g : Write) (bs : List ChunkData) (fits : Bool) → (n : ℕ) → In n (source_plan g.setting g.way g.type g.mark bs fits).numbers
     → AtMost n (1 ∷ read g.setting count_reading (depth g) 0 [] (started g.way g.type g.mark bs fits))
-start_covered g bs fits b n i = subst (λ z. AtMost n (1 ∷ z)) (sym is) (by i)
+start_covered g bs fits n i = subst (λ z. AtMost n (1 ∷ z)) (sym is) (by i)
   where
     acts : List Act
     acts = source_acts first_batch bs fits
@@ -392,4 +392,4 @@ start_covered g bs fits b n i = subst (λ z. AtMost n (1 ∷ z)) (sym is) (by i)
         let l : 0 + length bs ≤ h.0 = h.2 in
         most_over n 0 1 (indices_in acts) (mine ++ ((own ++ (kids ++ [])) ++ [])) (omega arith) from_source (h.0, h.1, omega (arith, l, e))
     by (inr j) = most_over n 1 1 (own ++ kids) (mine ++ ((own ++ (kids ++ [])) ++ [])) (omega arith) from_root
-        ((plan_covered g.setting g.way g.type b).covers g.mark (1 ∷ []) (batch_items 0 bs) fits root_eof (fuel_of (form_of g)) (fuel_is_enough g.way g.type).1 n j)
+        ((plan_covered g.setting g.way g.type).covers g.mark (1 ∷ []) (batch_items 0 bs) fits root_eof (fuel_of (form_of g)) (fuel_is_enough g.way g.type).1 n j)

@@ -1,5 +1,5 @@
 -- What the tasks of a state have counted by now.
-use Rattle.std.proofs.Common.{◌≡◌, ◌+◌, ◌⊎◌, ◌||◌, ◌∷◌, ◌++◌, ◌∙◌, ℕ, suc, true, List, length, refl, sym, ap, subst, inl, inr, ⊎_elim, arith, append_assoc, append-nil, []}
+use Rattle.std.proofs.Common.{◌≡◌, ◌+◌, ◌⊎◌, ◌||◌, ◌∷◌, ◌++◌, ◌∙◌, ℕ, suc, List, length, refl, sym, ap, subst, inl, inr, ⊎_elim, arith, append_assoc, append-nil, []}
 use Rattle.vx_model.specs.ChunkData.{ChunkData}
 use Rattle.vx_path.specs.Lists.{In}
 use Rattle.vx_path.specs.Path.{root_eof}
@@ -22,11 +22,10 @@ use Rattle.vx_machine_steps.proofs.Plain.{next_is}
 use Rattle.vx_machine_steps.proofs.Seen.{Steps, steps_of, due_same}
 use Rattle.vx_machine_steps.proofs.Trimmed.{top_trim, below_trim, beside_trim}
 use Rattle.vx_machine_promises.specs.Write.{Write, Future, begin}
-use Rattle.vx_machine_view.specs.Built.{is_built}
-use Rattle.vx_machine_view.specs.Start.{first_indices}
+use Rattle.vx_machine_state.specs.Start.{first_indices}
 use Rattle.vx_machine_view.specs.Whole.{form_of, root_depth}
 use Rattle.vx_machine_view.proofs.Beginning.{opened_is}
-use Rattle.vx_machine_view.proofs.Building.{built_is_built}
+use Rattle.vx_machine_view.proofs.Suiting.{forms_are_suited}
 use Rattle.vx_machine_view.proofs.Words.{numbers_in-append}
 use Rattle.vx_machine_runs.proofs.Covers.{counted_by, count_reading}
 
@@ -179,12 +178,12 @@ all_did s d j (Work h ks r) e =
 -- ---- the start
 
 -- how far pointers come there
-pub opened_first : (g : Write) → is_built g.way ≡ true → opened (root_depth g) (root_seed (form_of g) g.mark ∷ []) ≡ first_indices (form_of g) g.mark root_eof
-opened_first g b =
+pub opened_first : (g : Write) → opened (root_depth g) (root_seed (form_of g) g.mark ∷ []) ≡ first_indices (form_of g) g.mark root_eof
+opened_first g =
     ap (λ z. start_indices (root_seed (form_of g) g.mark).local ++ z) (append-nil (opened (fuel_of (form_of g)) (firsts (root_seed (form_of g) g.mark))))
-    ∙ opened_is (form_of g) g.mark (1 ∷ []) root_eof (fuel_of (form_of g)) (built_is_built g.way g.type b) (fuel_is_enough g.way g.type).1
+    ∙ opened_is (form_of g) g.mark (1 ∷ []) root_eof (fuel_of (form_of g)) (forms_are_suited g.way g.type) (fuel_is_enough g.way g.type).1
 
-pub start_did : (g : Write) (taken : List ChunkData) (f : Future) → is_built g.way ≡ true → did (begin g taken f) ≡ first_indices (form_of g) g.mark root_eof
-start_did g taken f b =
+pub start_did : (g : Write) (taken : List ChunkData) (f : Future) → did (begin g taken f) ≡ first_indices (form_of g) g.mark root_eof
+start_did g taken f =
     append-nil (did (sprout (root_depth g) quiet 0 (firsts (source_seed (form_of g) g.mark))))
-    ∙ sprout_did (root_depth g) 0 quiet (firsts (source_seed (form_of g) g.mark)) ∙ opened_first g b
+    ∙ sprout_did (root_depth g) 0 quiet (firsts (source_seed (form_of g) g.mark)) ∙ opened_first g

@@ -11,7 +11,7 @@ use Rattle.vx_tasks.specs.Runs.{noted}
 use Rattle.vx_strategy_spec.specs.StrategyData.{flat, chunked}
 use Rattle.vx_machine_promises.specs.Write.{Write, Answer, unasked, came, over, taken_by, heard_by}
 use Rattle.vx_machine_view.specs.Machine.{finished, WholeStep, source_step, is_finished}
-use Rattle.vx_machine_view.specs.State.{no_tasks}
+use Rattle.vx_machine_state.specs.State.{no_tasks}
 use Rattle.vx_machine_view.specs.Underway.{ready_steps}
 use Rattle.vx_machine_runs.specs.Runs.{Stand, outset, Asking, TypedAnswer, BeforeEnd, Done, Led}
 

@@ -2,9 +2,9 @@
 use Rattle.std.proofs.Common.{◌≡◌, ◌∷◌, ◌++◌, ◌∙◌, ℕ, cond, List, map, refl, sym, ap, Some, []}
 use Rattle.vx_plan.specs.PlanData.{Setting}
 use Rattle.vx_machine_promises.specs.Write.{Answer}
-use Rattle.vx_machine_view.specs.State.{Next, put, hand_on, press, probe, open_run, end_run, append, shut_kids, join_kids, start_table, leave_kid, Desk, Tasks, no_tasks, task_then}
-use Rattle.vx_machine_view.specs.Acts.{do_act}
-use Rattle.vx_machine_view.specs.Moves.{Step, may_act, own_step, in_kids, in_rest, steps}
+use Rattle.vx_machine_state.specs.State.{Next, put, hand_on, press, probe, open_run, end_run, append, shut_kids, join_kids, start_table, leave_kid, Desk, Tasks, no_tasks, task_then}
+use Rattle.vx_machine_state.specs.Acts.{do_act}
+use Rattle.vx_machine_state.specs.Moves.{Step, may_act, own_step, in_kids, in_rest, steps}
 use Rattle.vx_machine_view.specs.Machine.{Machine, may_source, WholeStep, source_step, in_root, whole_steps}
 use Rattle.vx_machine_view.specs.Steps.{AllPairs}
 use Rattle.vx_machine_view.proofs.Words.{pairs_append, pairs_map, pairs_nth}

@@ -37,11 +37,11 @@ picks_are_exact most schedule ns h p = picked_from most schedule 0 ns h p
 -- ---- how many are ready
 
 pub ready_is_within_steps : StartIsReached → StepIsReached → EndIsPlanned → SeenIsWhole → AllSteps → ReadyIsWithinSteps
-ready_is_within_steps began reached planned_end whole all g first ns y n law b s l fin i =
+ready_is_within_steps began reached planned_end whole all g first ns y n law s l fin i =
     let h : Write = scheduled g (places ns) in
-    (notes_are_whole planned_end whole all h first ns y (run_under began reached h first ns y law b s refl (schedule_is_free g first (places ns) (outset g) y ns l)) s fin).ready n i
+    (notes_are_whole planned_end whole all h first ns y (run_under began reached h first ns y law s refl (schedule_is_free g first (places ns) (outset g) y ns l)) s fin).ready n i
 
 pub ready_is_within_all : StartIsReached → StepIsReached → SeenIsFirst → ReadyIsWithinAll
-ready_is_within_all began reached firsts g first ns y f n law b s l o i =
+ready_is_within_all began reached firsts g first ns y f n law s l o i =
     let h : Write = scheduled g (places ns) in
-    notes_are_within_work firsts h first ns y f n (run_under began reached h first ns y law b s refl (schedule_is_free g first (places ns) (outset g) y ns l)) o i
+    notes_are_within_work firsts h first ns y f n (run_under began reached h first ns y law s refl (schedule_is_free g first (places ns) (outset g) y ns l)) o i

@@ -1,7 +1,7 @@
 -- The state that a write has come to, and the move that a ready step is.
 use Rattle.std.proofs.Common.{◌≡◌, ◌+◌, ◌++◌, ◌∙◌, ℕ, Bool, List, map, length, ap, subst, Some, []}
 use Rattle.vx_model.specs.ChunkData.{ChunkData}
-use Rattle.vx_machine_view.specs.Images.{Careful}
+use Rattle.vx_machine_state.specs.Images.{Careful}
 use Rattle.vx_tasks.specs.Run.{Note, nth, Leads}
 use Rattle.vx_plan.specs.PlanData.{Pair}
 use Rattle.vx_plan.specs.Number.{number_of}

@@ -80,8 +80,8 @@ valid_is_sound refusals counts g first seen x told f k w law u o c clean fit = o
     on (r, shown) = sound_of (planned g (taken_by x.taken told) f) w clean fit (caused refusals counts g first seen x told k w law c f o r shown)
 
 pub valid_starts : StartIsCounted → ValidStarts
-valid_starts counts g f b clean fit =
-    (by (start_fault g.setting g.way g.type g.mark) refl, λ n i. fits_most n (planned g [] f).numbers fit (counts g f n (subst (λ z. In n z) (sym (opened_first g b)) i)))
+valid_starts counts g f clean fit =
+    (by (start_fault g.setting g.way g.type g.mark) refl, λ n i. fits_most n (planned g [] f).numbers fit (counts g f n (subst (λ z. In n z) (sym (opened_first g)) i)))
   where
     by : (o : Option What) → start_fault g.setting g.way g.type g.mark ≡ o → start_fault g.setting g.way g.type g.mark ≡ None
     by None e = e
@@ -116,4 +116,4 @@ past_is_caused p w n c big = record {
     joins (inr i) = i
 
 pub start_is_caused : StartIsCounted → StartIsCaused
-start_is_caused counts g f n b i big = past_most n (planned g [] f).numbers big (counts g f n (subst (λ z. In n z) (sym (opened_first g b)) i))
+start_is_caused counts g f n i big = past_most n (planned g [] f).numbers big (counts g f n (subst (λ z. In n z) (sym (opened_first g)) i))

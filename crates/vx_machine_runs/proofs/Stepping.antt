@@ -4,7 +4,7 @@ use Rattle.std.proofs.Math.Nat.{mod-eq_of_lt}
 use Rattle.std.proofs.lemmas.Bool.{true≢false}
 use Rattle.vx_model.specs.Ty.{Ty}
 use Rattle.vx_path.specs.Path.{Eof}
-use Rattle.vx_machine_view.specs.Images.{Careful}
+use Rattle.vx_machine_state.specs.Images.{Careful}
 use Rattle.vx_tasks.specs.Run.{Note, nth, first_pick, later_picks}
 use Rattle.vx_tasks.specs.Runs.{noted}
 use Rattle.vx_plan.specs.PlanData.{Setting}
@@ -15,7 +15,7 @@ use Rattle.vx_machine_promises.specs.Reached.{Reached}
 use Rattle.vx_machine_promises.specs.Promises.{StartIsReached, StepIsReached}
 use Rattle.vx_plan.specs.Number.{number_of}
 use Rattle.vx_machine_view.specs.Machine.{Phase, reading, giving, closing, finished, Machine, may_source, WholeStep, source_step, whole_steps, machine_ids}
-use Rattle.vx_machine_view.specs.Reserved.{reserved_by}
+use Rattle.vx_machine_state.specs.Reserved.{reserved_by}
 use Rattle.vx_machine_view.specs.Whole.{form_of, Asks}
 use Rattle.vx_machine_view.specs.Underway.{Showing, ready_steps}
 use Rattle.vx_machine_view.proofs.Placing.{source_place}
@@ -71,10 +71,10 @@ evened g first x told f t shown k w at =
 -- ---- the start
 
 pub start_under : StartIsReached → StartIsUnderway
-start_under reached g first b s f o =
+start_under reached g first s f o =
     let r = reached g f in
     subst (λ z. (r : Reached g [] f [] [] z) × Showing g first [] (outset g).machine f r.tree) (sym (start_tracked g))
-    (r.0, subst (λ t. Showing g first [] (outset g).machine f t) (sym r.1) (start_shows g (number_of (planned g [] f).pairs first) f b s))
+    (r.0, subst (λ t. Showing g first [] (outset g).machine f t) (sym r.1) (start_shows g (number_of (planned g [] f).pairs first) f s))
 
 -- ---- a step
 
@@ -118,7 +118,7 @@ module _ (reached : StepIsReached) (g : Write) (first : ℕ) (law : Careful g.se
       (led_under (seen ++ (n ∷ [])) ns l.0 y (subst (λ z. PickedBy z ns) (sym (picks_more seen n g.schedule)) p.1) l.2 (step_under reached g first seen x l.0 n law p.0 l.1 u))
 
 pub run_by_under : StartIsReached → StepIsReached → RunByIsUnderway
-run_by_under began reached g first ns y law b s p l = led_under reached g first law [] ns (outset g) y p l (start_under began g first b s)
+run_by_under began reached g first ns y law s p l = led_under reached g first law [] ns (outset g) y p l (start_under began g first s)
 
 pub places_are_picks : PlacesArePicks
 places_are_picks g first x y [] l = tt
@@ -129,8 +129,8 @@ places_are_picks g first x y (n ∷ ns) l =
     (sym (mod-eq_of_lt less), places_are_picks g first l.0 y ns l.2)
 
 pub run_under : StartIsReached → StepIsReached → RunIsUnderway
-run_under began reached g first ns y law b s p l =
-    run_by_under began reached g first ns y law b s (subst (λ z. PickedBy z ns) (sym p) (places_are_picks g first (outset g) y ns l)) l
+run_under began reached g first ns y law s p l =
+    run_by_under began reached g first ns y law s (subst (λ z. PickedBy z ns) (sym p) (places_are_picks g first (outset g) y ns l)) l
 
 -- ---- any schedule
 

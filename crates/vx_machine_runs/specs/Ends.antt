@@ -2,7 +2,7 @@
 use Rattle.std.specs.Prelude.{◌≡◌, ◌<◌, ◌⊎◌, ℕ, Bool, true, List, [], ◌∷◌, length, Some, None, IsTrue, IsFalse}
 use Rattle.vx_model.specs.ChunkData.{ChunkData}
 use Rattle.vx_path.specs.Lists.{In}
-use Rattle.vx_machine_view.specs.Images.{Careful}
+use Rattle.vx_machine_state.specs.Images.{Careful}
 use Rattle.vx_tasks.specs.Run.{Note}
 use Rattle.vx_plan.specs.PlanData.{Plan, What}
 use Rattle.vx_plan.specs.Number.{sorted, numbered}
@@ -10,9 +10,9 @@ use Rattle.vx_plan.specs.SourcePlan.{start_fault, source_plan}
 use Rattle.vx_plan.specs.Valid.{Has}
 use Rattle.vx_machine_turns.specs.Planned.{AtMost}
 use Rattle.vx_machine_promises.specs.Write.{Write, Future, Open, Answer, planned, taken_by, heard_by}
-use Rattle.vx_machine_view.specs.Acts.{layouts_in}
+use Rattle.vx_machine_state.specs.Acts.{layouts_in}
 use Rattle.vx_machine_view.specs.Machine.{WholeStep, is_finished}
-use Rattle.vx_machine_view.specs.Reserved.{reserved_by}
+use Rattle.vx_machine_state.specs.Reserved.{reserved_by}
 use Rattle.vx_machine_view.specs.Underway.{ready_steps}
 use Rattle.vx_machine_runs.specs.Runs.{Stand, Chosen, UnderwayAt}
 

@@ -1,12 +1,11 @@
 -- Picks by a count of what is ready that stops at a greatest number.
 use Rattle.std.specs.Prelude.{◌≡◌, ◌%◌, ◌≤◌, min, slice_index, ℕ, suc, List, [], ◌∷◌, length, None, IsTrue}
 use Rattle.vx_path.specs.Lists.{In}
-use Rattle.vx_machine_view.specs.Images.{Careful}
+use Rattle.vx_machine_state.specs.Images.{Careful}
 use Rattle.vx_tasks.specs.Run.{Note, work}
 use Rattle.vx_cut_laws.specs.Cut.{cut}
 use Rattle.vx_plan.specs.SourcePlan.{start_fault}
 use Rattle.vx_machine_promises.specs.Write.{Write, Future, Open, scripts}
-use Rattle.vx_machine_view.specs.Built.{is_built}
 use Rattle.vx_machine_view.specs.Machine.{is_finished}
 use Rattle.vx_machine_runs.specs.Runs.{Stand, outset, Led, PickedBy}
 
@@ -23,9 +22,9 @@ PicksAreExact = (most : ℕ) (schedule : List ℕ) (ns : List Note) → ((n : No
 -- the work of what may still come.
 
 abbrev pub ReadyIsWithinSteps : Type 0
-ReadyIsWithinSteps = (g : Write) (first : ℕ) (ns : List Note) (y : Stand) (n : Note) → Careful g.setting → IsTrue (is_built g.way)
+ReadyIsWithinSteps = (g : Write) (first : ℕ) (ns : List Note) (y : Stand) (n : Note) → Careful g.setting
     → start_fault g.setting g.way g.type g.mark ≡ None → Led g first (outset g) ns y → IsTrue (is_finished y.machine) → In n ns → n.ready ≤ length ns
 
 abbrev pub ReadyIsWithinAll : Type 0
-ReadyIsWithinAll = (g : Write) (first : ℕ) (ns : List Note) (y : Stand) (f : Future) (n : Note) → Careful g.setting → IsTrue (is_built g.way)
+ReadyIsWithinAll = (g : Write) (first : ℕ) (ns : List Note) (y : Stand) (f : Future) (n : Note) → Careful g.setting
     → start_fault g.setting g.way g.type g.mark ≡ None → Led g first (outset g) ns y → Open y.heard f → In n ns → n.ready ≤ work (cut (scripts g y.taken f))

@@ -1,8 +1,8 @@
 -- Runs of the machine as the program keeps it, in a write.
-use Rattle.std.specs.Prelude.{◌≡◌, ◌+◌, ◌%◌, ℕ, zero, suc, Bool, false, List, [], ◌∷◌, ◌++◌, map, length, Some, None, IsTrue, IsFalse}
+use Rattle.std.specs.Prelude.{◌≡◌, ◌+◌, ◌%◌, ℕ, zero, suc, Bool, false, List, [], ◌∷◌, ◌++◌, map, length, Some, None, IsFalse}
 use Rattle.vx_model.specs.Ty.{Ty}
 use Rattle.vx_model.specs.ChunkData.{ChunkData}
-use Rattle.vx_machine_view.specs.Images.{Careful}
+use Rattle.vx_machine_state.specs.Images.{Careful}
 use Rattle.vx_tasks.specs.Run.{Note, nth, first_pick, later_picks}
 use Rattle.vx_tasks.specs.Runs.{noted}
 use Rattle.vx_plan.specs.PlanData.{Setting, Pair}
@@ -11,9 +11,8 @@ use Rattle.vx_machine_steps.specs.Runs.{picks_after}
 use Rattle.vx_machine_promises.specs.Write.{Write, Answer, unasked, came, over, taken_by, heard_by}
 use Rattle.vx_machine_promises.specs.Reached.{Underway}
 use Rattle.vx_machine_view.specs.Machine.{Phase, reading, giving, closing, finished, Machine, start, WholeStep, whole_steps}
-use Rattle.vx_machine_view.specs.Built.{is_built}
-use Rattle.vx_machine_view.specs.Reserved.{reserved_by}
-use Rattle.vx_machine_view.specs.Typed.{Typed}
+use Rattle.vx_machine_state.specs.Reserved.{reserved_by}
+use Rattle.vx_machine_state.specs.Typed.{Typed}
 use Rattle.vx_machine_view.specs.Whole.{form_of}
 use Rattle.vx_machine_view.specs.Underway.{Showing, ready_steps}
 
@@ -89,9 +88,9 @@ UnderwayAt g first seen x = Underway (Showing g first x.taken x.machine) g x.tak
 
 -- ---- laws
 
--- of a built strategy whose start refuses nothing
+-- where the start refuses nothing
 abbrev pub StartIsUnderway : Type 0
-StartIsUnderway = (g : Write) (first : ℕ) → IsTrue (is_built g.way) → start_fault g.setting g.way g.type g.mark ≡ None → UnderwayAt g first [] (outset g)
+StartIsUnderway = (g : Write) (first : ℕ) → start_fault g.setting g.way g.type g.mark ≡ None → UnderwayAt g first [] (outset g)
 
 -- where the step is the one that the schedule picks
 abbrev pub StepIsUnderway : Type 0
@@ -100,7 +99,7 @@ StepIsUnderway = (g : Write) (first : ℕ) (seen : List Note) (x y : Stand) (n :
 
 -- whole runs, where the schedule picks these places
 abbrev pub RunByIsUnderway : Type 0
-RunByIsUnderway = (g : Write) (first : ℕ) (ns : List Note) (y : Stand) → Careful g.setting → IsTrue (is_built g.way)
+RunByIsUnderway = (g : Write) (first : ℕ) (ns : List Note) (y : Stand) → Careful g.setting
     → start_fault g.setting g.way g.type g.mark ≡ None → PickedBy g.schedule ns → Led g first (outset g) ns y → UnderwayAt g first ns y
 
 -- as each schedule does that tells them
@@ -108,7 +107,7 @@ abbrev pub PlacesArePicks : Type 0
 PlacesArePicks = (g : Write) (first : ℕ) (x y : Stand) (ns : List Note) → Led g first x ns y → PickedBy (map (λ n. n.picked) ns) ns
 
 abbrev pub RunIsUnderway : Type 0
-RunIsUnderway = (g : Write) (first : ℕ) (ns : List Note) (y : Stand) → Careful g.setting → IsTrue (is_built g.way)
+RunIsUnderway = (g : Write) (first : ℕ) (ns : List Note) (y : Stand) → Careful g.setting
     → start_fault g.setting g.way g.type g.mark ≡ None → g.schedule ≡ map (λ n. n.picked) ns → Led g first (outset g) ns y → UnderwayAt g first ns y
 
 -- which steps lead where depends on no schedule

@@ -2,15 +2,14 @@
 use Rattle.std.specs.Prelude.{◌≡◌, ◌^◌, ◌<◌, ◌≤◌, ℕ, List, [], ◌∷◌, ◌++◌, length, Some, None, IsTrue}
 use Rattle.vx_path.specs.Lists.{In}
 use Rattle.vx_path.specs.Path.{Eof, root_eof}
-use Rattle.vx_machine_view.specs.Images.{Careful}
+use Rattle.vx_machine_state.specs.Images.{Careful}
 use Rattle.vx_tasks.specs.Run.{Note, nth}
 use Rattle.vx_plan.specs.PlanData.{Pair, Plan}
 use Rattle.vx_plan.specs.Number.{sorted}
 use Rattle.vx_plan.specs.SourcePlan.{start_fault}
 use Rattle.vx_plan.specs.Valid.{Fit, IsPast}
 use Rattle.vx_machine_promises.specs.Write.{Write, Future, Open, Answer, unasked, planned, taken_by, heard_by}
-use Rattle.vx_machine_view.specs.Built.{is_built}
-use Rattle.vx_machine_view.specs.Start.{first_indices}
+use Rattle.vx_machine_state.specs.Start.{first_indices}
 use Rattle.vx_machine_view.specs.Whole.{form_of}
 use Rattle.vx_machine_view.specs.Machine.{reading, WholeStep, is_finished, machine_ids}
 use Rattle.vx_machine_view.specs.Places.{whole_ready}
@@ -54,7 +53,7 @@ PastIsCaused = (p : Plan) (w : WholeStep) (n : ℕ) → Caused p w → 2 ^ 64 �
 
 -- so it is at the start, of what is started with it
 abbrev pub StartIsCaused : Type 0
-StartIsCaused = (g : Write) (f : Future) (n : ℕ) → IsTrue (is_built g.way) → In n (first_indices (form_of g) g.mark root_eof) → 2 ^ 64 ≤ n → IsPast (2 ^ 64) (planned g [] f).numbers
+StartIsCaused = (g : Write) (f : Future) (n : ℕ) → In n (first_indices (form_of g) g.mark root_eof) → 2 ^ 64 ≤ n → IsPast (2 ^ 64) (planned g [] f).numbers
 
 -- A step that isn't refused, and whose counts fit.
 pub record SoundStep (w : WholeStep) : Type 0 where
@@ -71,5 +70,5 @@ ValidIsSound = (g : Write) (first : ℕ) (seen : List Note) (x : Stand) (told : 
 
 -- and so the start refuses nothing, and how far its pointers come fits
 abbrev pub ValidStarts : Type 0
-ValidStarts = (g : Write) (f : Future) → IsTrue (is_built g.way) → (planned g [] f).faults ≡ [] → Fit (planned g [] f).numbers
+ValidStarts = (g : Write) (f : Future) → (planned g [] f).faults ≡ [] → Fit (planned g [] f).numbers
     → (start_fault g.setting g.way g.type g.mark ≡ None) × ((n : ℕ) → In n (first_indices (form_of g) g.mark root_eof) → n < 2 ^ 64)

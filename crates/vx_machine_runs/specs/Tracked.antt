@@ -1,7 +1,7 @@
 -- What the tracker counts in a run.
 use Rattle.std.specs.Prelude.{◌≡◌, ◌+◌, ◌≤◌, ℕ, List, Some}
 use Rattle.vx_model.specs.ChunkData.{ChunkData}
-use Rattle.vx_machine_view.specs.Images.{Careful}
+use Rattle.vx_machine_state.specs.Images.{Careful}
 use Rattle.vx_tasks.specs.Run.{Note, nth}
 use Rattle.vx_machine_turns.specs.Acts.{raised_in, lowered_in}
 use Rattle.vx_machine_steps.specs.Tree.{Tree}

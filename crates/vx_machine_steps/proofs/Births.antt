@@ -1,5 +1,5 @@
 -- How far births bring their pointers is among what is read off a state.
-use Rattle.std.proofs.Common.{◌≡◌, ◌||◌, ◌∷◌, ◌++◌, ◌∙◌, ℕ, suc, Bool, List, refl, sym, ap, subst, inl, inr, ⊎_elim, []}
+use Rattle.std.proofs.Common.{◌≡◌, ◌||◌, ◌∷◌, ◌++◌, ℕ, suc, List, refl, sym, subst, ⊎_elim, []}
 use Rattle.vx_path.specs.Lists.{In}
 use Rattle.vx_path.proofs.Lists.{in_left, in_right, in_cases}
 use Rattle.vx_plan.specs.PlanData.{Setting}
@@ -9,18 +9,17 @@ use Rattle.vx_machine_turns.specs.Turns.{firsts, start_indices}
 use Rattle.vx_machine_turns.specs.Scripts.{script}
 use Rattle.vx_machine_turns.specs.Readings.{row_of, unread, start_reading}
 use Rattle.vx_machine_turns.specs.Plain.{task_of, script_reading}
-use Rattle.vx_machine_turns.specs.Source.{source_acts, source_seed, outside_seed}
-use Rattle.vx_tasks.specs.Runs.{first_batch}
+use Rattle.vx_machine_turns.specs.Source.{named_acts, seed_at, outside_seed}
 use Rattle.vx_machine_steps.specs.Laws.{BirthsWithin, StartOpens}
 use Rattle.vx_machine_steps.specs.Moves.{Due, all_paths, TreeMove, tree_moves}
 use Rattle.vx_machine_steps.specs.Stands.{Neat, AllNeat, Linked, closing}
-use Rattle.vx_machine_steps.specs.Start.{root_seed}
+use Rattle.vx_machine_steps.specs.Start.{root_at}
 use Rattle.vx_machine_steps.specs.Tree.{Tree, Leaf, Work, ahead, read, opened_row, opened}
 use Rattle.vx_machine_steps.proofs.Kept.{ends_of}
 use Rattle.vx_machine_steps.proofs.Laws.{outside_neat}
 use Rattle.vx_machine_steps.proofs.Places.{Where, here, under, aside, which}
 use Rattle.vx_machine_steps.proofs.Seen.{Steps, steps_of, due_ahead}
-use Rattle.vx_machine_steps.proofs.Start.{start_reads}
+use Rattle.vx_machine_steps.proofs.Start.{start_at_reads}
 
 -- of children that are yet to come, the first of whom are these
 unread_opens : (s : Setting) (d : Fuel) (j : ℕ) (qs more : List Seed) (acts : List Act) (x : ℕ) → In x (opened d qs) → In x (unread s start_reading d j (qs ++ more) acts)
@@ -81,6 +80,6 @@ pub births_within : BirthsWithin
 births_within s d t m st i x w = births_in s (all_paths t) d outside_seed (closing ∷ []) [] 0 t m i outside_neat st.neat st.linked x w
 
 pub start_opens : StartOpens
-start_opens s d f m bs fits x i = subst (λ z. In x z) (sym (start_reads start_reading s d f m bs fits))
-    (in_left x (unread s start_reading (less d (source_seed f m).type) 0 (root_seed f m ∷ []) (source_acts first_batch bs fits)) []
-    (unread_opens s (less d (source_seed f m).type) 0 (root_seed f m ∷ []) [] (source_acts first_batch bs fits) x i))
+start_opens s d f m o bs fits x i = subst (λ z. In x z) (sym (start_at_reads start_reading s d f m o bs fits))
+    (in_left x (unread s start_reading (less d (seed_at f m o).type) 0 (root_at f m o ∷ []) (named_acts o.names bs fits)) []
+    (unread_opens s (less d (seed_at f m o).type) 0 (root_at f m o ∷ []) [] (named_acts o.names bs fits) x i))

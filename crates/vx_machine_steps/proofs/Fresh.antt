@@ -1,15 +1,12 @@
 -- Each task that is started begins at the start of its script, so all scripts are neat.
-use Rattle.std.proofs.Common.{◌≡◌, ℕ, suc, ◌+◌, ◌≤◌, Bool, true, false, if◌then◌else◌, nat_eq, List, [], ◌∷◌, ◌++◌, length, Option, Some, None, refl, sym, subst, arith}
-use Rattle.std.proofs.lemmas.Bool.Decides.{nat_tests}
+use Rattle.std.proofs.Common.{◌≡◌, ℕ, suc, ◌+◌, Bool, true, false, if◌then◌else◌, List, [], ◌∷◌, ◌++◌, length, Option, Some, None, refl, sym, subst}
 use Rattle.vx_model.specs.ChunkData.{ChunkData}
 use Rattle.vx_model.specs.Words.{tail}
-use Rattle.vx_path.specs.Path.{Eof, under, inside, next, root_eof}
+use Rattle.vx_path.specs.Path.{Eof, under, inside, next}
 use Rattle.vx_rules.specs.Columns.{struct_columns, list_columns}
 use Rattle.vx_rules.specs.Regroup.{ranked}
 use Rattle.vx_zone_spec.specs.ZoneTable.{Filled, kept_columns, table_type}
 use Rattle.vx_tasks.specs.Task.Kind.{Take, TakeEnd, Join}
-use Rattle.vx_tasks.specs.Runs.{first_batch}
-use Rattle.vx_tasks.proofs.Scripts.{no_true}
 use Rattle.vx_plan.specs.PlanData.{Setting, Item}
 use Rattle.vx_plan.specs.DictNode.{is_dictionary}
 use Rattle.vx_machine_turns.specs.Forms.{Writer}
@@ -21,7 +18,8 @@ use Rattle.vx_machine_turns.specs.Grouped.{Grouper, block_grouper, byte_grouper,
 use Rattle.vx_machine_turns.specs.Collected.{collect_rest}
 use Rattle.vx_machine_turns.specs.Dict.{Stretch, run_seeds, fallback_seed, ended_puts, cut_puts, runs_first, fallback_first, next_cut, last_stretches}
 use Rattle.vx_machine_turns.specs.Zoned.{zone_columns, zoned_end, zoned_ends}
-use Rattle.vx_machine_turns.specs.Source.{source_acts, source_seed}
+use Rattle.vx_machine_turns.specs.Source.{named_acts, seed_at}
+use Rattle.vx_machine_turns.proofs.WholeLaws.{source_is_tidy}
 use Rattle.vx_machine_turns.specs.Turns.{turn, first_at_end, more_at_end, firsts, firsts_of, kept}
 use Rattle.vx_machine_turns.specs.Scripts.{as_kind, filled, block, script}
 use Rattle.vx_machine_turns.specs.Fuels.{Fuel, spent, fuel, less}
@@ -30,10 +28,10 @@ use Rattle.vx_machine_turns.specs.Plain.{task_of, script_reading}
 use Rattle.vx_machine_turns.specs.Tidy.{Tidy, started}
 use Rattle.vx_machine_turns.proofs.TidyLaws.{scripts_are_tidy, firsts_are_started}
 use Rattle.vx_machine_steps.specs.Stands.{Neat, AllNeat}
-use Rattle.vx_machine_steps.specs.Start.{root_seed}
+use Rattle.vx_machine_steps.specs.Start.{root_at}
 use Rattle.vx_machine_steps.specs.Laws.{StartIsNeat}
 use Rattle.vx_machine_steps.proofs.Neats.{tidy_is_neat}
-use Rattle.vx_machine_steps.proofs.Start.{start_reads}
+use Rattle.vx_machine_steps.proofs.Start.{start_at_reads}
 
 -- its first children are those that its script counts as started
 abbrev pub IsFresh : Seed → Type 0
@@ -143,7 +141,7 @@ turn_fresh s fallback_local i = (tt, (tt, tt))
 turn_fresh s (runs_local n r j rows) i = (tt, cut_fresh s n j.0 0 r.base r.eof r.begun (next_cut n r j).closed (next_cut n r j).codes)
 turn_fresh s (zoned_local n records last zones rows) i = (tt, (tt, tt))
 turn_fresh s idle_local i = (tt, tt)
-turn_fresh s (source_local f m) i = (tt, tt)
+turn_fresh s (source_local f m o) i = (tt, tt)
 turn_fresh s outside_local i = (tt, tt)
 
 end_fresh : (s : Setting) (l : Local) → FreshActs (first_at_end s l ∷ more_at_end s l)
@@ -166,7 +164,7 @@ end_fresh s (runs_local n r j rows) =
     (tt, acts_append (ended_puts s n j.0 0 r.base r.eof r.begun (last_stretches n r j)) (does Join ∷ []) (ended_fresh s n j.0 0 r.base r.eof r.begun (last_stretches n r j)) (tt, tt))
 end_fresh s (zoned_local n records last zones rows) = zoned_fresh s n zones rows (kept_columns (zone_columns n) records)
 end_fresh s idle_local = (tt, tt)
-end_fresh s (source_local f m) = (tt, tt)
+end_fresh s (source_local f m o) = (tt, tt)
 end_fresh s outside_local = (tt, tt)
 
 firsts_fresh : (l : Local) → AllFresh (firsts_of l)
@@ -186,7 +184,7 @@ firsts_fresh fallback_local = tt
 firsts_fresh (runs_local n r j rows) = tt
 firsts_fresh (zoned_local n records last zones rows) = (firsts_are_started n.child false (under n.name 0) (inside n.eof), tt)
 firsts_fresh idle_local = tt
-firsts_fresh (source_local f m) = (firsts_are_started f m (1 ∷ []) root_eof, tt)
+firsts_fresh (source_local f m o) = (firsts_are_started f m (1 ∷ []) o.eof, tt)
 firsts_fresh outside_local = (refl, tt)
 
 -- Of all tasks.
@@ -215,27 +213,9 @@ unread_neat s (fuel g) j qs acts f = along j qs f (λ q fs sc h. unread_neat s (
           along (suc j) qs f.1 deep,
         )
 
--- The source's acts.
-
-positive : (i : ℕ) → 1 ≤ i → nat_eq 0 i ≡ false
-positive i l = grind (arith, nat_tests)
-
-source_tidy : (at_path : Eof) (bs : List ChunkData) (fits : Bool) → Tidy 1 (source_acts at_path bs fits)
-source_tidy at_path [] true = (
-  λ i l. (refl, refl),
-  λ i h. absurd (no_true refl h),
-  ((λ i l. let z : nat_eq 0 i ≡ false = positive i l in (refl, rw z refl)), (λ i h. refl), tt),
-)
-source_tidy at_path [] false = (λ i l. (refl, refl), λ i h. refl, tt)
-source_tidy at_path (b ∷ bs) fits = (
-  λ i l. (refl, refl),
-  λ i h. absurd (no_true refl h),
-  ((λ i l. let z : nat_eq 0 i ≡ false = positive i l in (rw z refl, refl)), (λ i h. absurd (no_true refl h)), source_tidy (next at_path) bs fits),
-)
-
 pub start_is_neat : StartIsNeat
-start_is_neat s d f m bs fits = subst AllNeat (sym (start_reads script_reading s d f m bs fits)) (
-  tidy_is_neat (source_seed f m) (source_acts first_batch bs fits) (source_tidy first_batch bs fits),
-  unread_neat s (less d (source_seed f m).type) 0 (root_seed f m ∷ []) (source_acts first_batch bs fits) (firsts_are_started f m (1 ∷ []) root_eof, tt),
+start_is_neat s d f m o bs fits = subst AllNeat (sym (start_at_reads script_reading s d f m o bs fits)) (
+  tidy_is_neat (seed_at f m o) (named_acts o.names bs fits) (source_is_tidy o.names bs fits),
+  unread_neat s (less d (seed_at f m o).type) 0 (root_at f m o ∷ []) (named_acts o.names bs fits) (firsts_are_started f m (1 ∷ []) o.eof, tt),
   tt,
 )

@@ -10,13 +10,14 @@ use Rattle.vx_machine_turns.specs.Forms.{Form}
 use Rattle.vx_machine_turns.specs.Fuels.{Fuel, spent, fuel, less}
 use Rattle.vx_machine_turns.specs.Turns.{firsts}
 use Rattle.vx_machine_turns.specs.Scripts.{script}
-use Rattle.vx_machine_turns.specs.Source.{source_seed}
+use Rattle.vx_named_tasks.specs.Names.{Outset}
+use Rattle.vx_machine_turns.specs.Source.{seed_at}
 use Rattle.vx_machine_turns.specs.Readings.{Reading, row_of, unread, raise_reading, lower_reading}
 use Rattle.vx_machine_turns.specs.Plain.{plain, task_of, script_reading}
 use Rattle.vx_machine_steps.specs.Laws.{Sums}
 use Rattle.vx_machine_steps.specs.Moves.{Due, all_paths, TreeMove, tree_moves}
 use Rattle.vx_machine_steps.specs.Runs.{Runs, acts_of, done}
-use Rattle.vx_machine_steps.specs.Start.{start}
+use Rattle.vx_machine_steps.specs.Start.{start_at}
 use Rattle.vx_machine_steps.specs.Tree.{Tree, Leaf, Work, ahead, read, counts, sprout_row, quiet, sprout, feed}
 use Rattle.vx_machine_steps.proofs.Places.{Where, here, under, aside, which}
 use Rattle.vx_machine_steps.proofs.Plain.{next_is}
@@ -157,17 +158,17 @@ sum_lowered = sums lowered_in lowered_adds
 
 -- Nothing is done at the start.
 
-start_done : (f : List Act → ℕ) → Additive f → (d : Fuel) (k : Form) (m : Bool) (bs : List ChunkData) (fits : Bool) → done f (start d k m bs fits) ≡ 0
-start_done f add d k m bs fits =
+start_done : (f : List Act → ℕ) → Additive f → (d : Fuel) (k : Form) (m : Bool) (o : Outset) (bs : List ChunkData) (fits : Bool) → done f (start_at d k m o bs fits) ≡ 0
+start_done f add d k m o bs fits =
     let a : f [] ≡ 0 = add.nothing in
-    let b : done f (sprout (less d (source_seed k m).type) quiet 0 (firsts (source_seed k m))) ≡ 0 = sprout_done f add (less d (source_seed k m).type) 0 quiet (firsts (source_seed k m)) in
+    let b : done f (sprout (less d (seed_at k m o).type) quiet 0 (firsts (seed_at k m o))) ≡ 0 = sprout_done f add (less d (seed_at k m o).type) 0 quiet (firsts (seed_at k m o)) in
     omega (arith, a, b)
 
-pub raised_start : (d : Fuel) (k : Form) (m : Bool) (bs : List ChunkData) (fits : Bool) → done raised_in (start d k m bs fits) ≡ 0
-raised_start d k m bs fits = start_done raised_in raised_adds d k m bs fits
+pub raised_start : (d : Fuel) (k : Form) (m : Bool) (o : Outset) (bs : List ChunkData) (fits : Bool) → done raised_in (start_at d k m o bs fits) ≡ 0
+raised_start d k m o bs fits = start_done raised_in raised_adds d k m o bs fits
 
-pub lowered_start : (d : Fuel) (k : Form) (m : Bool) (bs : List ChunkData) (fits : Bool) → done lowered_in (start d k m bs fits) ≡ 0
-lowered_start d k m bs fits = start_done lowered_in lowered_adds d k m bs fits
+pub lowered_start : (d : Fuel) (k : Form) (m : Bool) (o : Outset) (bs : List ChunkData) (fits : Bool) → done lowered_in (start_at d k m o bs fits) ≡ 0
+lowered_start d k m o bs fits = start_done lowered_in lowered_adds d k m o bs fits
 
 -- A move, whether it refuses or not, adds what its act does.
 pub move_raised : (s : Setting) (all : List (List ℕ)) (d : Fuel) (t : Tree) (m : TreeMove) → In m (tree_moves s all d t) → done raised_in m.after ≡ done raised_in t + m.act.raises

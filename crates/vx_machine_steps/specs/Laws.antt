@@ -7,7 +7,8 @@ use Rattle.vx_tasks.specs.Task.{Join}
 use Rattle.vx_tasks.specs.State.{Zeros, left}
 use Rattle.vx_tasks.specs.Rules.{AtLeast, KeepsRules, KeepsOrder, NoneRefuses}
 use Rattle.vx_tasks.specs.Run.{all_held, all_moves, work, Leads, nth, run, note, trace}
-use Rattle.vx_tasks.specs.Runs.{first_batch, noted}
+use Rattle.vx_tasks.specs.Runs.{noted}
+use Rattle.vx_named_tasks.specs.Names.{Outset}
 use Rattle.vx_plan.specs.PlanData.{Setting, Pair, What, paths}
 use Rattle.vx_model.specs.ChunkData.{ChunkData}
 use Rattle.vx_machine_turns.specs.Acts.{Seed, Act, refuses}
@@ -16,12 +17,12 @@ use Rattle.vx_machine_turns.specs.Fuels.{Fuel, less}
 use Rattle.vx_machine_turns.specs.Turns.{firsts}
 use Rattle.vx_machine_turns.specs.Readings.{Reading, unread, pair_reading, fault_reading, start_reading}
 use Rattle.vx_machine_turns.specs.Plain.{task_of}
-use Rattle.vx_machine_turns.specs.Source.{source_acts, source_seed}
+use Rattle.vx_machine_turns.specs.Source.{named_acts, seed_at}
 use Rattle.vx_machine_turns.specs.Tidy.{Tidy}
 use Rattle.vx_machine_steps.specs.Moves.{Due, due, all_paths, all_over, TreeMove, machine_moves, view}
 use Rattle.vx_machine_steps.specs.Runs.{Runs, pick_of, RunsBy, notes, picks_after, acts_of, appended, done}
 use Rattle.vx_machine_steps.specs.Stands.{Neat, AllNeat, Stands}
-use Rattle.vx_machine_steps.specs.Start.{root_seed, start}
+use Rattle.vx_machine_steps.specs.Start.{root_at, start_at}
 use Rattle.vx_machine_steps.specs.Tree.{Tree, Leaf, Work, read, forest, counts, opened}
 
 -- The machine and the theory.
@@ -159,13 +160,13 @@ NoneRefused = (s : Setting) (d : Fuel) (t : Tree) → NoneRefuses (forest s d t)
 
 -- what is read off it: the source's acts, and the root on their batches
 abbrev pub StartReads : {F : Type 0} → Reading F → Type 0
-StartReads v = (s : Setting) (d : Fuel) (f : Form) (m : Bool) (bs : List ChunkData) (fits : Bool) → read s v d 0 [] (start d f m bs fits)
-    ≡ v.make (source_seed f m) (source_acts first_batch bs fits) (unread s v (less d (source_seed f m).type) 0 (root_seed f m ∷ []) (source_acts first_batch bs fits)) v.none
+StartReads v = (s : Setting) (d : Fuel) (f : Form) (m : Bool) (o : Outset) (bs : List ChunkData) (fits : Bool) → read s v d 0 [] (start_at d f m o bs fits)
+    ≡ v.make (seed_at f m o) (named_acts o.names bs fits) (unread s v (less d (seed_at f m o).type) 0 (root_at f m o ∷ []) (named_acts o.names bs fits)) v.none
 
 -- how far the root brings its pointer, and all that is started with it
 abbrev pub StartOpens : Type 0
-StartOpens = (s : Setting) (d : Fuel) (f : Form) (m : Bool) (bs : List ChunkData) (fits : Bool) (x : ℕ) → In x (opened (less d (source_seed f m).type) (root_seed f m ∷ []))
-    → In x (read s start_reading d 0 [] (start d f m bs fits))
+StartOpens = (s : Setting) (d : Fuel) (f : Form) (m : Bool) (o : Outset) (bs : List ChunkData) (fits : Bool) (x : ℕ) → In x (opened (less d (seed_at f m o).type) (root_at f m o ∷ []))
+    → In x (read s start_reading d 0 [] (start_at d f m o bs fits))
 
 -- A task whose script is tidy, behind the children that are started with it, is neat.
 abbrev pub TidyIsNeat : Type 0
@@ -173,9 +174,9 @@ TidyIsNeat = (q : Seed) (acts : List Act) → Tidy (length (firsts q)) acts → 
 
 -- each task's script is neat
 abbrev pub StartIsNeat : Type 0
-StartIsNeat = (s : Setting) (d : Fuel) (f : Form) (m : Bool) (bs : List ChunkData) (fits : Bool) → AllNeat (forest s d (start d f m bs fits))
+StartIsNeat = (s : Setting) (d : Fuel) (f : Form) (m : Bool) (o : Outset) (bs : List ChunkData) (fits : Bool) → AllNeat (forest s d (start_at d f m o bs fits))
 
 -- where its tree of scripts keeps the rules, it stands, and nothing is done
 abbrev pub StartStands : Type 0
-StartStands = (s : Setting) (d : Fuel) (f : Form) (m : Bool) (bs : List ChunkData) (fits : Bool) → KeepsRules (forest s d (start d f m bs fits))
-    → Stands s d (start d f m bs fits) × (counts (start d f m bs fits) ≡ Zeros)
+StartStands = (s : Setting) (d : Fuel) (f : Form) (m : Bool) (o : Outset) (bs : List ChunkData) (fits : Bool) → KeepsRules (forest s d (start_at d f m o bs fits))
+    → Stands s d (start_at d f m o bs fits) × (counts (start_at d f m o bs fits) ≡ Zeros)

@@ -5,7 +5,7 @@
 
 ghost use Rattle.vx_machine_turns.specs.Acts.{written_by, raised_in, lowered_in};
 ghost use Rattle.vx_machine_turns.specs.Readings.{pair_reading, fault_reading, layout_reading, number_reading, index_reading, start_reading, raise_reading, lower_reading};
-ghost use Rattle.vx_machine_steps.specs.StartPlanned.{StartIsPlanned};
+ghost use Rattle.vx_machine_steps.specs.StartPlanned.{StartAtIsPlanned, StartIsPlanned};
 ghost use Rattle.vx_machine_steps.specs.Laws.{MovesAgree, HeldAgrees, MoveKeeps, RunsLead, ReadingStays, ScatteredIsOne, AppendedFirst, AllSorted, JoinsAreFree, EndIsFree, OverIsDone, SomeMove, MovesLower, RunsCount, NotesAgree, NotesGrow, NotesEnd, Sums, Lists, BirthsWithin, RefusalsWithin, NoneRefused, StartReads, StartOpens, TidyIsNeat, StartIsNeat, StartStands};
 
 /// Each move is one of the theory, and the state that it leads to stands again.
@@ -72,9 +72,10 @@ pub fn refusals()
     ensures none { NoneRefused }
 {}
 
-/// The start of a strategy's machine: it stands, and what is read off it is planned.
+/// The start of a strategy's machine: it stands, and what is read off it is planned, wherever it can begin; the root's can.
 pub fn start_is_planned()
-    ensures { StartIsPlanned }
+    ensures planned { StartAtIsPlanned }
+    ensures root { StartIsPlanned }
 {}
 
 /// The start.

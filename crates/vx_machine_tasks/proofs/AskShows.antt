@@ -5,7 +5,7 @@ use Rattle.vx_write_answer.specs.declared.step.ActionKind.TheVariants as actions
 use Rattle.vx_write_answer.specs.declared.error.WriteError.{WriteError}
 use Rattle.vx_write_answer.specs.declared.error.WriteError.TheVariants.{CompressFault}
 use Rattle.vx_machine_nodes.specs.Calls.{SinkStops, TaskTold}
-use Rattle.vx_machine_nodes.specs.Causes.{MayCome, ActMay}
+use Rattle.vx_machine_node.specs.Causes.{MayCome, ActMay}
 use Rattle.vx_machine_nodes.proofs.ActCauses.{wider}
 use Rattle.vx_machine_nodes.proofs.CallSteps.{unasked_by, quiet_stops, quiet_told}
 use Rattle.vx_machine_tasks.specs.Asking.{ImageMay}

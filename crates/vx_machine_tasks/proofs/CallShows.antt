@@ -7,16 +7,16 @@ use Rattle.vx_path.specs.Path.{Eof}
 use Rattle.vx_tasks.specs.Task.{Free, Call}
 use Rattle.vx_plan.specs.PlanData.{Setting, Item as Piece}
 use Rattle.vx_plan.specs.DictNode.{is_dictionary}
-use Rattle.vx_machine_view.specs.Coder.{Coder}
-use Rattle.vx_machine_view.specs.State.{Next, Desk, Tasks}
-use Rattle.vx_machine_view.specs.Acts.{probed, do_act}
+use Rattle.vx_machine_state.specs.Coder.{Coder}
+use Rattle.vx_machine_state.specs.State.{Next, Desk, Tasks}
+use Rattle.vx_machine_state.specs.Acts.{probed, do_act}
 use Rattle.vx_write_answer.specs.declared.error.WriteError.{WriteError}
 use Rattle.vx_write_answer.specs.declared.error.WriteError.TheVariants.{CompressFault, OutOfMemory}
-use Rattle.vx_machine_nodes.specs.Causes.{MayCome, AppendMay}
-use Rattle.vx_machine_nodes.specs.View.{coder_in, item_of, todo_of}
-use Rattle.vx_machine_nodes.specs.declared.item.Due.{Due}
-use Rattle.vx_machine_nodes.specs.declared.item.Due.TheVariants.{Put, HandOn, Press, Append, Close, Join, Table, Leave, Ask, OpenRun, EndRun}
-use Rattle.vx_machine_tasks.specs.Acting.{is_call, DueFails, NextFails, CallFails}
+use Rattle.vx_machine_node.specs.Causes.{MayCome, AppendMay}
+use Rattle.vx_machine_node.specs.View.{coder_in, item_of, todo_of}
+use Rattle.vx_machine_node.specs.declared.item.Due.{Due}
+use Rattle.vx_machine_node.specs.declared.item.Due.TheVariants.{Put, HandOn, Press, Append, Close, Join, Table, Leave, Ask, OpenRun, EndRun}
+use Rattle.vx_machine_acts.specs.Acting.{is_call, DueFails, NextFails, CallFails}
 
 -- ---- of what is due
 

@@ -19,40 +19,40 @@ use Rattle.vx_plan.specs.PlanData.{Setting, What, Item as Piece, rows_in}
 use Rattle.vx_machine_turns.specs.Acts.{or_else}
 use Rattle.vx_machine_turns.specs.Forms.{Form}
 use Rattle.vx_machine_turns.specs.Starts.{start_fault}
-use Rattle.vx_machine_view.specs.Coder.{Coder}
-use Rattle.vx_machine_view.specs.Coding.{no_runs}
-use Rattle.vx_machine_view.specs.Images.{images_of}
-use Rattle.vx_machine_view.specs.State.{Next, hand_on, probe, open_run, shut_kids, Mind, as_is, by_probe, by_run, passing, Tasks, no_tasks, task_then}
-use Rattle.vx_machine_view.specs.Start.{first_indices, started_task}
-use Rattle.vx_machine_view.specs.Acts.{count, add, give, end_at, shut_desk, shut_at, probed, take_end}
+use Rattle.vx_machine_state.specs.Coder.{Coder}
+use Rattle.vx_machine_state.specs.Coding.{no_runs}
+use Rattle.vx_machine_state.specs.Images.{images_of}
+use Rattle.vx_machine_state.specs.State.{Next, hand_on, probe, open_run, shut_kids, Mind, as_is, by_probe, by_run, passing, Tasks, no_tasks, task_then}
+use Rattle.vx_machine_state.specs.Start.{first_indices, started_task}
+use Rattle.vx_machine_state.specs.Acts.{count, add, give, end_at, shut_desk, shut_at, probed, take_end}
 use Rattle.vx_write_answer.specs.declared.error.WriteError.{WriteError}
 use Rattle.vx_write_answer.specs.declared.error.WriteError.TheVariants.{CompressFault}
 use Rattle.vx_write_answer.specs.declared.step.ActionKind.TheVariants as actions
-use Rattle.vx_machine_nodes.specs.declared.dict_node.DictNode.{DictNode}
-use Rattle.vx_machine_nodes.specs.declared.item.Due.{Due}
-use Rattle.vx_machine_nodes.specs.declared.item.Due.TheVariants.{Close}
-use Rattle.vx_machine_nodes.specs.declared.node.Local.{Local}
-use Rattle.vx_machine_nodes.specs.declared.node.Local.TheVariants.{Grouped}
+use Rattle.vx_machine_node.specs.declared.dict_node.DictNode.{DictNode}
+use Rattle.vx_machine_node.specs.declared.item.Due.{Due}
+use Rattle.vx_machine_node.specs.declared.item.Due.TheVariants.{Close}
+use Rattle.vx_machine_node.specs.declared.node.Local.{Local}
+use Rattle.vx_machine_node.specs.declared.node.Local.TheVariants.{Grouped}
 use Rattle.vx_machine_nodes.specs.Acting.{bare, acted, ActDone, ActRefused, Took, Ended, TakeRefused, is_probe}
 use Rattle.vx_machine_nodes.specs.Calls.{CalledTimes, PressStops}
-use Rattle.vx_machine_nodes.specs.Causes.{MayCome}
-use Rattle.vx_machine_nodes.specs.Context.{Allowed}
-use Rattle.vx_machine_nodes.specs.Ledger.{local_reserved}
-use Rattle.vx_machine_nodes.specs.Outcome.{AllFit, none_past}
-use Rattle.vx_machine_nodes.specs.View.{coder_in, next_of, todo_of}
-use Rattle.vx_machine_nodes.proofs.Fitting.{none_fit, both_fit}
+use Rattle.vx_machine_node.specs.Causes.{MayCome}
+use Rattle.vx_machine_node.specs.Context.{Allowed}
+use Rattle.vx_machine_node.specs.Ledger.{local_reserved}
+use Rattle.vx_machine_node.specs.Outcome.{AllFit, none_past}
+use Rattle.vx_machine_node.specs.View.{coder_in, next_of, todo_of}
+use Rattle.vx_machine_node.proofs.Fitting.{none_fit, both_fit}
 use Rattle.vx_machine_nodes.proofs.PressSteps.{image_is}
 use Rattle.vx_machine_nodes.proofs.RefusalSteps.{any_past}
-use Rattle.vx_machine_tasks.specs.declared.task.Task.{Task, out-Task}
-use Rattle.vx_machine_tasks.specs.Ledger.{task_reserved, tasks_reserved}
-use Rattle.vx_machine_tasks.specs.Ready.{kid_of, kids_of, room_at}
-use Rattle.vx_machine_tasks.specs.Starting.{IsAllowed, KidStarted, StartRefused, FormRefused}
-use Rattle.vx_machine_tasks.specs.Stocks.{task_stock, tasks_stock}
-use Rattle.vx_machine_tasks.specs.View.{desk_of, task_row, row}
+use Rattle.vx_machine_task.specs.declared.task.Task.{Task, out-Task}
+use Rattle.vx_machine_task.specs.Ledger.{task_reserved, tasks_reserved}
+use Rattle.vx_machine_task.specs.Ready.{kid_of, kids_of, room_at}
+use Rattle.vx_machine_start.specs.Starting.{IsAllowed, KidStarted, StartRefused, FormRefused}
+use Rattle.vx_machine_task.specs.Stocks.{task_stock, tasks_stock}
+use Rattle.vx_machine_task.specs.View.{desk_of, task_row, row}
 use Rattle.vx_machine_tasks.proofs.DictStarts.{fault_why}
-use Rattle.vx_machine_tasks.proofs.PaidSteps.{at_same}
-use Rattle.vx_machine_tasks.proofs.StartShows.{refused_as}
-use Rattle.vx_machine_tasks.proofs.ViewParts.{add_add, count_row, row_out}
+use Rattle.vx_machine_task.proofs.PaidSteps.{at_same}
+use Rattle.vx_machine_start.proofs.StartShows.{refused_as}
+use Rattle.vx_machine_task.proofs.ViewParts.{add_add, count_row, row_out}
 
 -- ---- a run is opened
 

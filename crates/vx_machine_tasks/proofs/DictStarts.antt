@@ -18,22 +18,22 @@ use Rattle.vx_machine_ids.proofs.MoveLaws.{moved_then, moved_beside, moved_drop,
 use Rattle.vx_plan.specs.PlanData.{Setting, What, Item as Piece}
 use Rattle.vx_machine_turns.specs.Forms.{Form}
 use Rattle.vx_machine_turns.specs.Starts.{start_fault}
-use Rattle.vx_machine_view.specs.State.{Tasks, no_tasks}
-use Rattle.vx_machine_view.specs.Start.{first_indices, started_task}
-use Rattle.vx_machine_view.specs.Acts.{add}
+use Rattle.vx_machine_state.specs.State.{Tasks, no_tasks}
+use Rattle.vx_machine_state.specs.Start.{first_indices, started_task}
+use Rattle.vx_machine_state.specs.Acts.{add}
 use Rattle.vx_write_answer.specs.declared.error.WriteError.{WriteError}
 use Rattle.vx_write_answer.specs.declared.error.WriteError.TheVariants as errors
-use Rattle.vx_machine_nodes.specs.Context.{Allowed}
-use Rattle.vx_machine_nodes.specs.Ledger.{Paid}
-use Rattle.vx_machine_nodes.specs.Outcome.{AllFit, Refused}
-use Rattle.vx_machine_nodes.specs.View.{form_at}
-use Rattle.vx_machine_tasks.specs.declared.task.Task.{Task}
-use Rattle.vx_machine_tasks.specs.Ledger.{task_reserved, tasks_reserved}
-use Rattle.vx_machine_tasks.specs.Starting.{IsAllowed, Started, KidStarted, StartRefused, FormRefused}
-use Rattle.vx_machine_tasks.specs.Stocks.{task_stock, tasks_stock}
-use Rattle.vx_machine_tasks.specs.View.{task_row, row}
-use Rattle.vx_machine_tasks.proofs.ReservedSteps.{tasks_push}
-use Rattle.vx_machine_tasks.proofs.RowSteps.{kid_added}
+use Rattle.vx_machine_node.specs.Context.{Allowed}
+use Rattle.vx_machine_node.specs.Ledger.{Paid}
+use Rattle.vx_machine_node.specs.Outcome.{AllFit, Refused}
+use Rattle.vx_machine_node.specs.View.{form_at}
+use Rattle.vx_machine_task.specs.declared.task.Task.{Task}
+use Rattle.vx_machine_task.specs.Ledger.{task_reserved, tasks_reserved}
+use Rattle.vx_machine_start.specs.Starting.{IsAllowed, Started, KidStarted, StartRefused, FormRefused}
+use Rattle.vx_machine_task.specs.Stocks.{task_stock, tasks_stock}
+use Rattle.vx_machine_task.specs.View.{task_row, row}
+use Rattle.vx_machine_task.proofs.ReservedSteps.{tasks_push}
+use Rattle.vx_machine_start.proofs.StartRows.{kid_added}
 
 -- ---- a pointer inside an id
 

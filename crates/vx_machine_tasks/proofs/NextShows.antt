@@ -12,29 +12,29 @@ use Rattle.vx_sink.specs.declared.context.LayoutWriterContext.{LayoutWriterConte
 use Rattle.vx_sink.specs.ContextView.{allowed_in, counted}
 use Rattle.vx_path.specs.Path.{Eof}
 use Rattle.vx_plan.specs.PlanData.{Setting}
-use Rattle.vx_machine_view.specs.State.{Next, Desk}
-use Rattle.vx_machine_view.specs.Acts.{Did, now, do_next, take_end, do_take, do_act}
+use Rattle.vx_machine_state.specs.State.{Next, Desk}
+use Rattle.vx_machine_state.specs.Acts.{Did, now, do_next, take_end, do_take, do_act}
 use Rattle.vx_write_answer.specs.declared.step.ActionKind.{ActionKind}
 use Rattle.vx_write_answer.specs.declared.step.ActionKind.TheVariants as actions
 use Rattle.vx_write_answer.specs.declared.error.WriteError.{WriteError}
-use Rattle.vx_machine_nodes.specs.declared.item.Due.{Due}
-use Rattle.vx_machine_nodes.specs.declared.item.Item.{Item}
-use Rattle.vx_machine_nodes.specs.declared.dict_node.DictNode.{DictNode}
-use Rattle.vx_machine_nodes.specs.declared.node.Local.{Local}
-use Rattle.vx_machine_nodes.specs.declared.node.Local.TheVariants.{Probe}
-use Rattle.vx_machine_tasks.specs.declared.task.Head.{Head}
-use Rattle.vx_machine_tasks.specs.declared.task.Task.{Task}
+use Rattle.vx_machine_node.specs.declared.item.Due.{Due}
+use Rattle.vx_machine_node.specs.declared.item.Item.{Item}
+use Rattle.vx_machine_node.specs.declared.dict_node.DictNode.{DictNode}
+use Rattle.vx_machine_node.specs.declared.node.Local.{Local}
+use Rattle.vx_machine_node.specs.declared.node.Local.TheVariants.{Probe}
+use Rattle.vx_machine_task.specs.declared.task.Head.{Head}
+use Rattle.vx_machine_task.specs.declared.task.Task.{Task}
 use Rattle.vx_machine_nodes.specs.Acting.{bare, ActStopped, TakeRefused, TakeStopped, ChunkTaken, ChunkStopped, is_probe, Ended, EndTaken, EndRefused}
-use Rattle.vx_machine_tasks.specs.Acting.{DueDone, DueRefused, TakeDone, NextTaken, NextUntaken, Acted, NextDone, NextRefused}
-use Rattle.vx_machine_nodes.specs.Context.{setting_of}
-use Rattle.vx_machine_tasks.specs.Ready.{Kid, is_over, may_now}
-use Rattle.vx_machine_nodes.specs.View.{coder_in, item_of, items_of, next_of, todo_of, mind_of}
-use Rattle.vx_machine_tasks.specs.View.{desk_of, row}
-use Rattle.vx_machine_tasks.proofs.ActShows.{act_shows, act_refused}
-use Rattle.vx_machine_tasks.proofs.Readiness.{may_none}
+use Rattle.vx_machine_acts.specs.Acting.{DueDone, DueRefused, TakeDone, NextTaken, NextUntaken, Acted, NextDone, NextRefused}
+use Rattle.vx_machine_node.specs.Context.{setting_of}
+use Rattle.vx_machine_task.specs.Ready.{Kid, is_over, may_now}
+use Rattle.vx_machine_node.specs.View.{coder_in, item_of, items_of, next_of, todo_of, mind_of}
+use Rattle.vx_machine_task.specs.View.{desk_of, row}
+use Rattle.vx_machine_acts.proofs.ActShows.{act_shows, act_refused}
+use Rattle.vx_machine_task.proofs.Readiness.{may_none}
 use Rattle.vx_machine_nodes.proofs.RefusalSteps.{any_past, take_stops, act_stops}
-use Rattle.vx_machine_tasks.proofs.TakeShows.{no_probe, took_shows, took_stopped, ended_shows, probed_shows, end_fails, take_acts}
-use Rattle.vx_machine_tasks.proofs.ViewParts.{count_row}
+use Rattle.vx_machine_acts.proofs.TakeShows.{no_probe, took_shows, took_stopped, ended_shows, probed_shows, end_fails, take_acts}
+use Rattle.vx_machine_task.proofs.ViewParts.{count_row}
 
 -- ---- from the queue
 

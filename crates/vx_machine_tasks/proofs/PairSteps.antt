@@ -1,8 +1,8 @@
 -- Pairs that may be written, of parts of a tree of tasks.
 use Rattle.std.proofs.Common.{◌≡◌, ℕ, zero, suc, ◌<◌, List, [], ◌∷◌, ◌++◌, length, get_or, subst, arith}
 use Rattle.vx_machine_tasks.specs.Pairs.{Pair, next_pairs, step_pairs, task_pairs, tasks_pairs, AllMay}
-use Rattle.vx_machine_tasks.specs.declared.task.Task.{Task, out-Task}
-use Rattle.vx_machine_tasks.specs.declared.task.Task.TheFolds.{fold_out-Task}
+use Rattle.vx_machine_task.specs.declared.task.Task.{Task, out-Task}
+use Rattle.vx_machine_task.specs.declared.task.Task.TheFolds.{fold_out-Task}
 
 module _ (may : List ℕ → List ℕ → Type 0) where
   pub may_left : (xs ys : List Pair) → AllMay may (xs ++ ys) → AllMay may xs

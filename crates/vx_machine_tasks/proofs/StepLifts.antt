@@ -8,16 +8,16 @@ use Rattle.vx_order.specs.Outlet.{Outlet}
 use Rattle.vx_sink.specs.declared.context.LayoutWriterContext.{LayoutWriterContext}
 use Rattle.vx_sink.specs.ContextView.{counted}
 use Rattle.vx_write_answer.specs.declared.error.WriteError.{WriteError}
-use Rattle.vx_machine_view.specs.State.{Tasks, no_tasks}
-use Rattle.vx_machine_view.specs.Moves.{may_act}
-use Rattle.vx_machine_view.specs.Places.{one_if, ready_in as ready_of}
-use Rattle.vx_machine_tasks.specs.declared.step.Did.{Did}
-use Rattle.vx_machine_tasks.specs.declared.task.Task.{Task, out-Task}
-use Rattle.vx_machine_nodes.specs.Context.{setting_of}
-use Rattle.vx_machine_tasks.specs.Ready.{ready_among}
+use Rattle.vx_machine_state.specs.State.{Tasks, no_tasks}
+use Rattle.vx_machine_state.specs.Moves.{may_act}
+use Rattle.vx_machine_state.specs.Places.{one_if, ready_in as ready_of}
+use Rattle.vx_machine_tasks.specs.declared.steps.Did.{Did}
+use Rattle.vx_machine_task.specs.declared.task.Task.{Task, out-Task}
+use Rattle.vx_machine_node.specs.Context.{setting_of}
+use Rattle.vx_machine_task.specs.Ready.{ready_among}
 use Rattle.vx_machine_tasks.specs.Steps.{TaskStepped, TaskRefused, TaskDone, TaskFails}
-use Rattle.vx_machine_nodes.specs.View.{todo_of}
-use Rattle.vx_machine_tasks.specs.View.{desk_of, task_row, row}
+use Rattle.vx_machine_node.specs.View.{todo_of}
+use Rattle.vx_machine_task.specs.View.{desk_of, task_row, row}
 use Rattle.vx_machine_tasks.proofs.StepShows.{below_stepped, below_refused, kid_stepped, kid_refused}
 
 module _ (ctx : LayoutWriterContext) (image : ℕ → ChunkData → ChunkData) (u : Active) (before after : Outlet) (r : Result Did WriteError) where

@@ -8,23 +8,23 @@ use Rattle.vx_order.specs.Answers.{IsPast, IsShared}
 use Rattle.vx_plan.specs.PlanData.{Setting}
 use Rattle.vx_write_answer.specs.declared.step.ActionKind.{ActionKind}
 use Rattle.vx_write_answer.specs.declared.error.WriteError.{WriteError}
-use Rattle.vx_machine_view.specs.State.{Desk, Tasks, no_tasks, task_then}
-use Rattle.vx_machine_view.specs.Acts.{Did, do_act}
-use Rattle.vx_machine_view.specs.Moves.{Step, may_act, own_step, steps}
-use Rattle.vx_machine_view.specs.Places.{one_if, ready_in as ready_of}
-use Rattle.vx_machine_view.proofs.Placing.{own_place}
-use Rattle.vx_machine_tasks.specs.declared.task.Task.{Task, out-Task}
-use Rattle.vx_machine_tasks.specs.declared.task.Task.TheOpen.{Task-F}
-use Rattle.vx_machine_tasks.specs.declared.task.Task.TheViews.{roll-Task}
-use Rattle.vx_machine_tasks.specs.Acting.{Acted, NextFails}
-use Rattle.vx_machine_nodes.specs.Outcome.{Refused}
-use Rattle.vx_machine_tasks.specs.Ready.{kids_of, may_now, ready_among}
+use Rattle.vx_machine_state.specs.State.{Desk, Tasks, no_tasks, task_then}
+use Rattle.vx_machine_state.specs.Acts.{Did, do_act}
+use Rattle.vx_machine_state.specs.Moves.{Step, may_act, own_step, steps}
+use Rattle.vx_machine_state.specs.Places.{one_if, ready_in as ready_of}
+use Rattle.vx_machine_state.proofs.Placing.{own_place}
+use Rattle.vx_machine_task.specs.declared.task.Task.{Task, out-Task}
+use Rattle.vx_machine_task.specs.declared.task.Task.TheOpen.{Task-F}
+use Rattle.vx_machine_task.specs.declared.task.Task.TheViews.{roll-Task}
+use Rattle.vx_machine_acts.specs.Acting.{Acted, NextFails}
+use Rattle.vx_machine_node.specs.Outcome.{Refused}
+use Rattle.vx_machine_task.specs.Ready.{kids_of, may_now, ready_among}
 use Rattle.vx_machine_tasks.specs.Steps.{TaskStepped, TaskRefused}
 use Rattle.vx_machine_tasks.proofs.CallShows.{act_calls}
-use Rattle.vx_machine_nodes.specs.View.{todo_of}
-use Rattle.vx_machine_tasks.specs.View.{desk_of, task_row, row}
-use Rattle.vx_machine_tasks.proofs.ViewParts.{row_out, row_roll}
-use Rattle.vx_machine_tasks.proofs.ReadyViews.{may_view}
+use Rattle.vx_machine_node.specs.View.{todo_of}
+use Rattle.vx_machine_task.specs.View.{desk_of, task_row, row}
+use Rattle.vx_machine_task.proofs.ViewParts.{row_out, row_roll}
+use Rattle.vx_machine_task.proofs.ReadyViews.{may_view}
 use Rattle.vx_machine_tasks.proofs.StepViews.{with_after, kid_after, kid_set, kid_step, below_place}
 
 -- ---- a task's own act

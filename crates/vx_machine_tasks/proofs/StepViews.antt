@@ -4,17 +4,17 @@ use Rattle.std.specs.FinMap as fin
 use Rattle.vx_sequence.specs.Universe.{Active}
 use Rattle.vx_tasks.specs.Run.{nth}
 use Rattle.vx_plan.specs.PlanData.{Setting}
-use Rattle.vx_machine_view.specs.State.{Desk, Tasks, no_tasks, task_then}
-use Rattle.vx_machine_view.specs.Acts.{add, Did, do_act}
-use Rattle.vx_machine_view.specs.Moves.{Step, may_act, own_step, in_kids, in_rest, steps}
-use Rattle.vx_machine_view.specs.Places.{one_if, ready_in as ready_of}
-use Rattle.vx_machine_view.proofs.Placing.{kid_place, rest_place}
-use Rattle.vx_machine_tasks.specs.declared.task.Task.{Task, out-Task}
-use Rattle.vx_machine_tasks.specs.Ready.{ready_in, ready_among}
-use Rattle.vx_machine_nodes.specs.View.{todo_of}
-use Rattle.vx_machine_tasks.specs.View.{desk_of, task_row, row}
-use Rattle.vx_machine_tasks.proofs.ViewParts.{row_out}
-use Rattle.vx_machine_tasks.proofs.ReadyViews.{task_ready}
+use Rattle.vx_machine_state.specs.State.{Desk, Tasks, no_tasks, task_then}
+use Rattle.vx_machine_state.specs.Acts.{add, Did, do_act}
+use Rattle.vx_machine_state.specs.Moves.{Step, may_act, own_step, in_kids, in_rest, steps}
+use Rattle.vx_machine_state.specs.Places.{one_if, ready_in as ready_of}
+use Rattle.vx_machine_state.proofs.Placing.{kid_place, rest_place}
+use Rattle.vx_machine_task.specs.declared.task.Task.{Task, out-Task}
+use Rattle.vx_machine_task.specs.Ready.{ready_in, ready_among}
+use Rattle.vx_machine_node.specs.View.{todo_of}
+use Rattle.vx_machine_task.specs.View.{desk_of, task_row, row}
+use Rattle.vx_machine_task.proofs.ViewParts.{row_out}
+use Rattle.vx_machine_task.proofs.ReadyViews.{task_ready}
 
 -- the same step, after which these tasks stand
 abbrev pub with_after : Step → Tasks → Step

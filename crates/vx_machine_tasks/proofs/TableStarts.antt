@@ -17,25 +17,25 @@ use Rattle.vx_machine_ids.specs.Stock.{Stock, none, both}
 use Rattle.vx_machine_ids.specs.Balance.{Owned, Moved}
 use Rattle.vx_machine_ids.proofs.Stocks.{stock_is, none_both, both_none, both_turn}
 use Rattle.vx_machine_ids.proofs.MoveLaws.{moved_then, moved_behind, moved_drop, moved_drop_first, moved_as, owned_as, owned_now, owned_left, owned_right}
-use Rattle.vx_machine_view.specs.State.{Next, start_table, Mind, Tasks, task_then}
-use Rattle.vx_machine_view.specs.Start.{first_indices, started_task}
-use Rattle.vx_machine_view.specs.Acts.{add, with_item, shut_desk}
-use Rattle.vx_machine_view.specs.Zoned.{table_item}
+use Rattle.vx_machine_state.specs.State.{Next, start_table, Mind, Tasks, task_then}
+use Rattle.vx_machine_state.specs.Start.{first_indices, started_task}
+use Rattle.vx_machine_state.specs.Acts.{add, with_item, shut_desk}
+use Rattle.vx_machine_state.specs.Zoned.{table_item}
 use Rattle.vx_write_answer.specs.declared.step.ActionKind.TheVariants as actions
 use Rattle.vx_write_answer.specs.declared.error.WriteError.{WriteError}
 use Rattle.vx_write_answer.specs.declared.error.WriteError.TheVariants.{SourceFault, SinkFault, CompressFault, BatchType, NotStruct, DuplicateField, ManyChunks, EmptyList, ZoneCut, ForbiddenAggregate, ForbiddenEncoding, TooLarge, OutOfMemory, Stopped}
 use Rattle.vx_machine_nodes.specs.Acting.{acted, ActDone, ActRefused}
-use Rattle.vx_machine_nodes.specs.Context.{Allowed}
-use Rattle.vx_machine_nodes.specs.Outcome.{AllFit}
-use Rattle.vx_machine_nodes.specs.View.{form_at}
-use Rattle.vx_machine_nodes.proofs.Fitting.{then_fit}
-use Rattle.vx_machine_tasks.specs.declared.task.Task.{Task, out-Task}
-use Rattle.vx_machine_tasks.specs.Starting.{IsAllowed, Counted, Started, StartRefused, FormRefused, PointerRefused}
-use Rattle.vx_machine_tasks.specs.Stocks.{task_stock, tasks_stock}
-use Rattle.vx_machine_tasks.specs.View.{desk_of, task_row, row}
-use Rattle.vx_machine_tasks.proofs.RowSteps.{kid_added, fed_task, started_as}
-use Rattle.vx_machine_tasks.proofs.StartShows.{refused_as, far_refused}
-use Rattle.vx_machine_tasks.proofs.StartMoves.{fed_moved, off_owned, off_moved}
+use Rattle.vx_machine_node.specs.Context.{Allowed}
+use Rattle.vx_machine_node.specs.Outcome.{AllFit}
+use Rattle.vx_machine_node.specs.View.{form_at}
+use Rattle.vx_machine_node.proofs.Fitting.{then_fit}
+use Rattle.vx_machine_task.specs.declared.task.Task.{Task, out-Task}
+use Rattle.vx_machine_start.specs.Starting.{IsAllowed, Counted, Started, StartRefused, FormRefused, PointerRefused}
+use Rattle.vx_machine_task.specs.Stocks.{task_stock, tasks_stock}
+use Rattle.vx_machine_task.specs.View.{desk_of, task_row, row}
+use Rattle.vx_machine_start.proofs.StartRows.{kid_added, fed_task, started_as}
+use Rattle.vx_machine_start.proofs.StartShows.{refused_as, far_refused}
+use Rattle.vx_machine_start.proofs.StartMoves.{fed_moved, off_owned, off_moved}
 
 -- ---- what is held
 

@@ -1,12 +1,3 @@
-pub mod Weight
-pub mod Stocks
-pub mod Sizes
-pub mod Ledger
-pub mod Ready
-pub mod Pairs
-pub mod View
-pub mod Counting
-pub mod Acting
 pub mod Asking
+pub mod Pairs
 pub mod Steps
-pub mod Starting

@@ -1,10 +1,10 @@
 -- The pairs of path and bytes that tasks append next.
 use Rattle.std.specs.Prelude.{ℕ, List, [], ◌∷◌, ◌++◌, map}
-use Rattle.vx_machine_nodes.specs.declared.item.Due.{Due}
-use Rattle.vx_machine_nodes.specs.declared.item.Due.TheVariants.{Put, HandOn, Append, Close, Join, Table, Leave, Press, Ask, OpenRun, EndRun}
-use Rattle.vx_machine_tasks.specs.declared.task.Task.{Task}
-use Rattle.vx_machine_tasks.specs.declared.task.Task.TheOpen.{Task-F}
-use Rattle.vx_machine_tasks.specs.declared.task.Task.TheFolds.{fold-Task}
+use Rattle.vx_machine_node.specs.declared.item.Due.{Due}
+use Rattle.vx_machine_node.specs.declared.item.Due.TheVariants.{Put, HandOn, Append, Close, Join, Table, Leave, Press, Ask, OpenRun, EndRun}
+use Rattle.vx_machine_task.specs.declared.task.Task.{Task}
+use Rattle.vx_machine_task.specs.declared.task.Task.TheOpen.{Task-F}
+use Rattle.vx_machine_task.specs.declared.task.Task.TheFolds.{fold-Task}
 
 abbrev pub Pair : Type 0
 Pair = List ℕ × List ℕ

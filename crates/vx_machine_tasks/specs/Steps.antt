@@ -7,14 +7,14 @@ use Rattle.vx_order.specs.Answers.{IsPast, IsShared}
 use Rattle.vx_plan.specs.PlanData.{Setting}
 use Rattle.vx_write_answer.specs.declared.step.ActionKind.{ActionKind}
 use Rattle.vx_write_answer.specs.declared.error.WriteError.{WriteError}
-use Rattle.vx_machine_view.specs.State.{Tasks}
-use Rattle.vx_machine_view.specs.Moves.{Step as TaskStep, steps}
+use Rattle.vx_machine_state.specs.State.{Tasks}
+use Rattle.vx_machine_state.specs.Moves.{Step as TaskStep, steps}
 use Rattle.vx_sink.specs.declared.context.LayoutWriterContext.{LayoutWriterContext}
 use Rattle.vx_sink.specs.ContextView.{counted as bytes_counted}
-use Rattle.vx_machine_nodes.specs.Context.{setting_of}
-use Rattle.vx_machine_nodes.specs.Outcome.{action_of, AllFit, Refused}
+use Rattle.vx_machine_node.specs.Context.{setting_of}
+use Rattle.vx_machine_node.specs.Outcome.{action_of, AllFit, Refused}
 use Rattle.vx_machine_nodes.specs.Acting.{Behind}
-use Rattle.vx_machine_tasks.specs.Acting.{CallFails}
+use Rattle.vx_machine_acts.specs.Acting.{CallFails}
 
 -- The step at this place was done, by the task of this name, and left these tasks; what it wrote got this number.
 pub record TaskStepped (s : Setting) (all : List (List ℕ)) (k : ℕ) (before : Outlet) (number : ℕ) (after : Outlet) (cs new : Tasks) (name : List ℕ) (a : ActionKind) : Type 0 where

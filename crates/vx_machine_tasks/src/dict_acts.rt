@@ -7,33 +7,33 @@ ghost use Rattle.vx_machine_ids.specs.Stock.{none, both};
 ghost use Rattle.vx_machine_ids.specs.Balance.{Owned, Moved};
 ghost use Rattle.vx_sink.specs.ContextView.{allowed_in, counted};
 ghost use Rattle.vx_plan.specs.PlanData.{Setting};
-ghost use Rattle.vx_machine_view.specs.Images.{images_of};
-ghost use Rattle.vx_machine_view.specs.State.{Next, Mind};
-ghost use Rattle.vx_machine_view.specs.Acts.{end_at, probed, take_end};
+ghost use Rattle.vx_machine_state.specs.Images.{images_of};
+ghost use Rattle.vx_machine_state.specs.State.{Next, Mind};
+ghost use Rattle.vx_machine_state.specs.Acts.{end_at, probed, take_end};
 ghost use Rattle.vx_machine_nodes.specs.Acting.{bare, acted, ActDone, ActRefused, Took, Ended, TakeRefused, is_probe};
 ghost use Rattle.vx_machine_nodes.specs.Calls.{PressTold};
-ghost use Rattle.vx_machine_nodes.specs.Causes.{MayCome};
-ghost use Rattle.vx_machine_nodes.specs.Ledger.{Paid, told_by, dues_reserved, local_reserved};
-ghost use Rattle.vx_machine_nodes.specs.Stocks.{item_stock, dues_stock, local_stock, probe_stock, run_stock};
-ghost use Rattle.vx_machine_nodes.specs.View.{coder_in, item_of, next_of, todo_of, mind_of};
-ghost use Rattle.vx_machine_nodes.specs.declared.item.Due.TheVariants.{Ask, OpenRun};
+ghost use Rattle.vx_machine_node.specs.Causes.{MayCome};
+ghost use Rattle.vx_machine_node.specs.Ledger.{Paid, told_by, dues_reserved, local_reserved};
+ghost use Rattle.vx_machine_node.specs.Stocks.{item_stock, dues_stock, local_stock, probe_stock, run_stock};
+ghost use Rattle.vx_machine_node.specs.View.{coder_in, item_of, next_of, todo_of, mind_of};
+ghost use Rattle.vx_machine_node.specs.declared.item.Due.TheVariants.{Ask, OpenRun};
 ghost use Rattle.vx_machine_tasks.specs.Asking.{ImageMay};
-ghost use Rattle.vx_machine_tasks.specs.Ledger.{tasks_reserved};
-ghost use Rattle.vx_machine_tasks.specs.Ready.{room_at, kids_of};
-ghost use Rattle.vx_machine_tasks.specs.Stocks.{tasks_stock};
-ghost use Rattle.vx_machine_tasks.specs.View.{row};
+ghost use Rattle.vx_machine_task.specs.Ledger.{tasks_reserved};
+ghost use Rattle.vx_machine_task.specs.Ready.{room_at, kids_of};
+ghost use Rattle.vx_machine_task.specs.Stocks.{tasks_stock};
+ghost use Rattle.vx_machine_task.specs.View.{row};
 
-use crate::advance::put;
 use crate::dict_start::{start_codes, start_fallback, start_values};
-use crate::task::Task;
 use std::alloc::Global;
 use std::collections::VecDeque;
 use std::mem;
+use vx_machine_acts::put;
 use vx_machine_ids::{give_up_id, give_up_pointer};
-use vx_machine_nodes::{
-    DictProbe, Due, Item, Local, RunStart, first_runs, give_up_item, give_up_probe, is_dictionary,
-    set_local,
+use vx_machine_node::{
+    DictProbe, Due, Item, Local, RunStart, give_up_item, give_up_probe, set_local,
 };
+use vx_machine_nodes::{first_runs, is_dictionary};
+use vx_machine_task::Task;
 use vx_order::Order;
 use vx_path::owned::Path;
 use vx_sink::{CompressError, CompressorPlugin, LayoutWriterContext};

@@ -8,28 +8,26 @@ ghost use Rattle.vx_rules.specs.Runs.{code_type};
 ghost use Rattle.vx_machine_ids.specs.Stock.{none, both, id_stock, end_stock, ok_stock};
 ghost use Rattle.vx_machine_ids.specs.Balance.{Owned, Moved};
 ghost use Rattle.vx_sink.specs.ContextView.{allowed_in, counted};
-ghost use Rattle.vx_machine_view.specs.State.{Tasks, no_tasks, task_then};
-ghost use Rattle.vx_machine_view.specs.Start.{first_mind, first_kids, first_indices, waiting, started_task};
-ghost use Rattle.vx_machine_view.specs.Acts.{add, with_item};
-ghost use Rattle.vx_machine_view.specs.Built.{is_built};
-ghost use Rattle.vx_machine_nodes.specs.Causes.{MayCome, StartMay};
-ghost use Rattle.vx_machine_nodes.specs.Ledger.{Paid, told_by, ok_bytes};
-ghost use Rattle.vx_machine_nodes.specs.Outcome.{AllFit};
-ghost use Rattle.vx_machine_nodes.specs.Stocks.{item_stock};
-ghost use Rattle.vx_machine_nodes.specs.View.{form_at, options_in, coder_in, item_of};
-ghost use Rattle.vx_machine_tasks.specs.Ledger.{task_reserved, tasks_reserved};
-ghost use Rattle.vx_machine_tasks.specs.Starting.{IsAllowed, Started, KidStarted, FormRefused};
-ghost use Rattle.vx_machine_tasks.specs.Stocks.{task_stock, tasks_stock};
-ghost use Rattle.vx_machine_tasks.specs.View.{desk_of, task_row, row};
-ghost use Rattle.vx_machine_tasks.specs.declared.task.Task.{out-Task};
+ghost use Rattle.vx_machine_state.specs.State.{Tasks, no_tasks, task_then};
+ghost use Rattle.vx_machine_state.specs.Start.{first_mind, first_kids, first_indices, waiting, started_task};
+ghost use Rattle.vx_machine_state.specs.Acts.{add, with_item};
+ghost use Rattle.vx_machine_node.specs.Causes.{MayCome, StartMay};
+ghost use Rattle.vx_machine_node.specs.Ledger.{Paid, told_by, ok_bytes};
+ghost use Rattle.vx_machine_node.specs.Outcome.{AllFit};
+ghost use Rattle.vx_machine_node.specs.Stocks.{item_stock};
+ghost use Rattle.vx_machine_node.specs.View.{form_at, options_in, coder_in, item_of};
+ghost use Rattle.vx_machine_task.specs.Ledger.{task_reserved, tasks_reserved};
+ghost use Rattle.vx_machine_start.specs.Starting.{IsAllowed, Started, KidStarted, FormRefused};
+ghost use Rattle.vx_machine_task.specs.Stocks.{task_stock, tasks_stock};
+ghost use Rattle.vx_machine_task.specs.View.{desk_of, task_row, row};
+ghost use Rattle.vx_machine_task.specs.declared.task.Task.{out-Task};
 
-use crate::grouped_start::child_parts;
-use crate::start::start_task;
-use crate::task::Task;
 use std::alloc::{AllocError, Global};
 use std::sync::Arc;
 use vx_machine_ids::{give_up_id, give_up_pointer, index_fits, take_inside};
-use vx_machine_nodes::{DictNode, Item, give_up_item};
+use vx_machine_node::{DictNode, Item, give_up_item};
+use vx_machine_start::{child_parts, start_task};
+use vx_machine_task::Task;
 use vx_model::{DType, Nullability};
 use vx_order::Order;
 use vx_path::owned::Path;
@@ -88,7 +86,6 @@ fn start_inside<O: Order>(
     id: SequenceId,
 ) -> Result<Task, WriteError>
     requires owned { Owned (O.active order.old) (id_stock id) }
-    requires built { IsTrue (is_built writer.now.item) }
     ensures moved { Moved (O.active order.old) (O.active order.new) (id_stock id) (ok_stock task_stock result) }
     ensures shows { (e : Eof) → e.stem ≡ id → e.last ≡ 0 → IfOk result (Started (allowed_in ctx.now) (form_at writer.now.item (ty (arc_value dtype))) marked name e) }
     ensures refused { (e : Eof) → e.stem ≡ id → e.last ≡ 0 → IfErr result (FormRefused (allowed_in ctx.now) (form_at writer.now.item (ty (arc_value dtype))) marked e) }

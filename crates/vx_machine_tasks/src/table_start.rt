@@ -9,29 +9,28 @@ ghost use Rattle.vx_machine_ids.specs.Stock.{both, id_stock, end_stock, ok_stock
 ghost use Rattle.vx_machine_ids.specs.Balance.{Owned, Moved};
 ghost use Rattle.vx_sink.specs.ContextView.{allowed_in, counted};
 ghost use Rattle.vx_plan.specs.PlanData.{Setting};
-ghost use Rattle.vx_machine_view.specs.State.{Next, Mind};
-ghost use Rattle.vx_machine_view.specs.Start.{first_indices, started_task};
-ghost use Rattle.vx_machine_view.specs.Built.{is_built};
-ghost use Rattle.vx_machine_view.specs.Acts.{add};
+ghost use Rattle.vx_machine_state.specs.State.{Next, Mind};
+ghost use Rattle.vx_machine_state.specs.Start.{first_indices, started_task};
+ghost use Rattle.vx_machine_state.specs.Acts.{add};
 ghost use Rattle.vx_machine_nodes.specs.Acting.{acted, ActDone, ActRefused};
-ghost use Rattle.vx_machine_nodes.specs.Causes.{MayCome};
-ghost use Rattle.vx_machine_nodes.specs.Ledger.{Paid, told_by};
-ghost use Rattle.vx_machine_tasks.specs.Ledger.{tasks_reserved};
-ghost use Rattle.vx_machine_tasks.specs.Starting.{IsAllowed, Counted, FormRefused, PointerRefused};
-ghost use Rattle.vx_machine_nodes.specs.Stocks.{item_stock, table_stock};
-ghost use Rattle.vx_machine_tasks.specs.Stocks.{tasks_stock};
-ghost use Rattle.vx_machine_nodes.specs.View.{form_at, item_of, next_of};
-ghost use Rattle.vx_machine_tasks.specs.View.{row};
-ghost use Rattle.vx_machine_nodes.specs.declared.item.Due.TheVariants.{Table};
+ghost use Rattle.vx_machine_node.specs.Causes.{MayCome};
+ghost use Rattle.vx_machine_node.specs.Ledger.{Paid, told_by};
+ghost use Rattle.vx_machine_task.specs.Ledger.{tasks_reserved};
+ghost use Rattle.vx_machine_start.specs.Starting.{IsAllowed, Counted, FormRefused, PointerRefused};
+ghost use Rattle.vx_machine_node.specs.Stocks.{item_stock, table_stock};
+ghost use Rattle.vx_machine_task.specs.Stocks.{tasks_stock};
+ghost use Rattle.vx_machine_node.specs.View.{form_at, item_of, next_of};
+ghost use Rattle.vx_machine_task.specs.View.{row};
+ghost use Rattle.vx_machine_node.specs.declared.item.Due.TheVariants.{Table};
 
 use crate::chunked::fed;
-use crate::start::start_task;
-use crate::task::Task;
 use std::alloc::Global;
 use std::sync::Arc;
 use vx_chunk::Chunk;
 use vx_machine_ids::{give_up_pointer, take_below, take_id};
-use vx_machine_nodes::{Item, TableStart, give_up_item};
+use vx_machine_node::{Item, TableStart, give_up_item};
+use vx_machine_start::start_task;
+use vx_machine_task::Task;
 use vx_model::DType;
 use vx_order::Order;
 use vx_path::owned::Path;
@@ -115,7 +114,6 @@ fn start_fed<O: Order>(
 ) -> Result<(), WriteError>
     requires owned { Owned (O.active order.old) (both (both (tasks_stock kids.old.items) (item_stock item)) (end_stock eof)) }
     requires reserved { tasks_reserved kids.old.items ≤ counted ctx.old }
-    requires built { IsTrue (is_built stats.now.item) }
     ensures moved { Moved (O.active order.old) (O.active order.new) (both (both (tasks_stock kids.old.items) (item_stock item)) (end_stock eof)) (tasks_stock kids.new.items) }
     ensures tracked { Paid ctx.old ctx.new (tasks_reserved kids.old.items) (tasks_reserved kids.new.items) }
     ensures context { told_by ctx.new ≡ told_by ctx.old }

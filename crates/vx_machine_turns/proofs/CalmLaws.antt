@@ -89,7 +89,7 @@ calm_turn s fallback_local i = (refl, tt)
 calm_turn s (runs_local n r j rows) i = cut_calm s n j.0 0 r.base r.eof r.begun (next_cut n r j).closed (next_cut n r j).codes
 calm_turn s (zoned_local n records last zones rows) i = (refl, tt)
 calm_turn s idle_local i = tt
-calm_turn s (source_local f m) i = tt
+calm_turn s (source_local f m o) i = tt
 calm_turn s outside_local i = tt
 
 pub calm_end : (s : Setting) (l : Local) → Calm (more_at_end s l)
@@ -110,7 +110,7 @@ calm_end s fallback_local = (refl, tt)
 calm_end s (runs_local n r j rows) = ended_calm s n j.0 0 r.base r.eof r.begun (last_stretches n r j) (does Join ∷ []) (refl, tt)
 calm_end s (zoned_local n records last zones rows) = zoned_calm s n zones (kept_columns (zone_columns n) records)
 calm_end s idle_local = tt
-calm_end s (source_local f m) = tt
+calm_end s (source_local f m o) = tt
 calm_end s outside_local = tt
 
 pub turns_are_calm : TurnsAreCalm

@@ -42,7 +42,7 @@ Bare fallback_local = Unit {0}
 Bare (runs_local n r j rows) = Unit {0}
 Bare (zoned_local n records last zones rows) = ⊥
 Bare idle_local = Unit {0}
-Bare (source_local f m) = ⊥
+Bare (source_local f m o) = ⊥
 Bare outside_local = ⊥
 
 bare_stays : (s : Setting) (l : Local) (i : Item) → Bare l → Bare (turn s l i).after
@@ -68,7 +68,7 @@ bare_stays s fallback_local i b = tt
 bare_stays s (runs_local n r j rows) i b = tt
 bare_stays s (zoned_local n records last zones rows) i b = absurd b
 bare_stays s idle_local i b = tt
-bare_stays s (source_local f m) i b = absurd b
+bare_stays s (source_local f m o) i b = absurd b
 bare_stays s outside_local i b = absurd b
 
 -- ---- the end: joins come last, close nothing and use nothing
@@ -114,7 +114,7 @@ ends_bare s fallback_local b = ((λ q. not_still _ q), tt)
 ends_bare s (runs_local n r j rows) b = runs_bare s n j.0 0 r.base r.eof r.begun (last_stretches n r j)
 ends_bare s (zoned_local n records last zones rows) b = absurd b
 ends_bare s idle_local b = tt
-ends_bare s (source_local f m) b = absurd b
+ends_bare s (source_local f m o) b = absurd b
 ends_bare s outside_local b = absurd b
 
 -- ---- whole scripts

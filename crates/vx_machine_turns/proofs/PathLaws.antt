@@ -45,9 +45,6 @@ from_up e ys j k x l i h = (raised e j, i, inr (j, k, refl, l, h))
 in_last : (ys : List (List ℕ)) (x : List ℕ) → In x (ys ++ (x ∷ []))
 in_last ys x = in_right x ys (x ∷ []) (inl refl)
 
-raised_as : (e : Eof) (j k : ℕ) → j ≡ k → begins (raised e j) (raised e k) ≡ true
-raised_as e j k q = subst (λ z. begins (raised e j) (raised e z) ≡ true) q (begins-refl (raised e j))
-
 -- of one that is given
 gives_one : (e : Eof) (ys : List (List ℕ)) (c : ℕ) (i : Item) → From e ys i.0 → (x : ℕ × Item) → In x ((c, i) ∷ []) → From e ys x.1.0
 gives_one e ys c i f x m = ⊎_elim (λ z. subst (λ y. From e ys y.1.0) (sym z) f) (λ z. absurd z) m
@@ -495,5 +492,5 @@ turns_go e s fallback_local a = fallback_goes e s
 turns_go e s (runs_local n r j rows) a = runs_goes e s n r j rows a
 turns_go e s (zoned_local n records last zones rows) a = zoned_goes e s n records last zones rows a
 turns_go e s idle_local a = idle_goes e s
-turns_go e s (source_local f m) a = absurd a
+turns_go e s (source_local f m o) a = absurd a
 turns_go e s outside_local a = absurd a

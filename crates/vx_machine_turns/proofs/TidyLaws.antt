@@ -22,6 +22,7 @@ use Rattle.vx_plan.specs.ColumnNodes.{elements_in}
 use Rattle.vx_plan.specs.DictNode.{is_dictionary}
 use Rattle.vx_plan.specs.FlatNode.{segment}
 use Rattle.vx_machine_turns.specs.Forms.{Form, flat_form, chunked_form, grouped_form, compressed_form, dict_form, zoned_form, no_struct_form, struct_form, list_form, Writer}
+use Rattle.vx_named_tasks.specs.Names.{Outset}
 use Rattle.vx_machine_turns.specs.Locals.{Local, ChunkedNode, StructNode, ListNode, GroupedNode, CompressedNode, DictNode, ZonedNode, RunsSoFar, flat_empty, flat_full, flat_many, chunked_local, struct_local, list_local, blocks_local, bytes_local, collect_local, compressed_local, outlet_local, dict_local, fallback_local, runs_local, zoned_local, idle_local, source_local, outside_local}
 use Rattle.vx_machine_turns.specs.Acts.{Act, does, put_all, close_queues, for_child, gifts, shut}
 use Rattle.vx_machine_turns.specs.Flat.{flat_append}
@@ -131,10 +132,10 @@ module _ (s : Setting) where
   idle_tidy [] false = tt
   idle_tidy (i ∷ is) ended = still 0 (script s idle_local (i ∷ is) ended) refl refl refl refl (idle_tidy is ended)
 
-  source_tidy : (f : Form) (m : Bool) (items : List Item) (ended : Bool) → Tidy 1 (script s (source_local f m) items ended)
-  source_tidy f m [] true = still 1 (script s (source_local f m) [] true) refl refl refl refl tt
-  source_tidy f m [] false = tt
-  source_tidy f m (i ∷ is) ended = still 1 (script s (source_local f m) (i ∷ is) ended) refl refl refl refl (source_tidy f m is ended)
+  source_tidy : (f : Form) (m : Bool) (o : Outset) (items : List Item) (ended : Bool) → Tidy 1 (script s (source_local f m o) items ended)
+  source_tidy f m o [] true = still 1 (script s (source_local f m o) [] true) refl refl refl refl tt
+  source_tidy f m o [] false = tt
+  source_tidy f m o (i ∷ is) ended = still 1 (script s (source_local f m o) (i ∷ is) ended) refl refl refl refl (source_tidy f m o is ended)
 
   outside_tidy : (items : List Item) (ended : Bool) → Tidy 1 (script s outside_local items ended)
   outside_tidy [] true = still 1 (script s outside_local [] true) refl refl refl refl tt
@@ -363,7 +364,7 @@ scripts_are_tidy s fallback_local items ended = fallback_tidy s items ended
 scripts_are_tidy s (runs_local n r j rows) items ended = runs_tidy s n r j rows items ended
 scripts_are_tidy s (zoned_local n records last zones rows) items ended = zoned_tidy s n records last zones rows items ended
 scripts_are_tidy s idle_local items ended = idle_tidy s items ended
-scripts_are_tidy s (source_local f m) items ended = source_tidy s f m items ended
+scripts_are_tidy s (source_local f m o) items ended = source_tidy s f m o items ended
 scripts_are_tidy s outside_local items ended = outside_tidy s items ended
 
 columns_count : (name : List ℕ) (c : ℕ) (ws : List Writer) (e : Eof) → length (column_seeds name c ws e) ≡ length ws

@@ -5,6 +5,7 @@ use Rattle.vx_model.specs.CellData.{CellData}
 use Rattle.vx_model.specs.ValueData.{ValueData}
 use Rattle.vx_model.specs.ChunkData.{ChunkData}
 use Rattle.vx_path.specs.Path.{Eof}
+use Rattle.vx_named_tasks.specs.Names.{Outset}
 use Rattle.vx_rules.specs.Blocks.{BlockOptions}
 use Rattle.vx_rules.specs.Runs.{DictOptions}
 use Rattle.vx_strategy_spec.specs.StrategyData.{FlatOptions, ZonedOptions}
@@ -111,7 +112,7 @@ pub data Local : Type 0 where
   zoned_local : ZonedNode → List (List ValueData) → ℕ → ℕ → ℕ → Local
   -- a node's that does nothing with its items
   idle_local : Local
-  -- the source's: the root's form and mark; it takes no items
-  source_local : Form → Bool → Local
+  -- the source's: the root's form and mark, and where the machine begins; it takes no items
+  source_local : Form → Bool → Outset → Local
   -- of what stands above the source, and has started it
   outside_local : Local

@@ -43,7 +43,7 @@ At e fallback_local = Unit {0}
 At e (runs_local n r j rows) = r.eof ≡ shifted e r.base
 At e (zoned_local n records last zones rows) = n.eof ≡ e
 At e idle_local = Unit {0}
-At e (source_local f m) = ⊥
+At e (source_local f m o) = ⊥
 At e outside_local = ⊥
 
 -- what an action gives, and the eof paths of what it starts, goes on from these paths

@@ -38,7 +38,7 @@ started fallback_local = 1
 started (runs_local n r j rows) = if r.begun then 2 + r.base else r.base
 started (zoned_local n records last zones rows) = 1
 started idle_local = 0
-started (source_local f m) = 1
+started (source_local f m o) = 1
 started outside_local = 1
 
 -- Each script is tidy, behind the children that are started.

@@ -15,7 +15,7 @@ use Rattle.vx_machine_turns.specs.Collected.{collect_turn, collect_ends, collect
 use Rattle.vx_machine_turns.specs.Compressed.{compressed_turn, outlet_turn, outlet_seed, outlet_firsts}
 use Rattle.vx_machine_turns.specs.Dict.{dict_turn, dict_empty_end, dict_kept, fallback_turn, runs_turn, runs_end, runs_ends, runs_kept}
 use Rattle.vx_machine_turns.specs.Zoned.{zone_columns, zoned_turn, zoned_end, zoned_ends, zoned_kept, zoned_firsts, zoned_indices}
-use Rattle.vx_machine_turns.specs.Source.{source_firsts, source_kept, outside_firsts}
+use Rattle.vx_machine_turns.specs.Source.{firsts_at, kept_at, outside_firsts}
 
 abbrev pub idle_turn : Local → Turn
 idle_turn l = record { first = does Take; more = []; after = l }
@@ -38,7 +38,7 @@ turn s fallback_local i = fallback_turn i
 turn s (runs_local n r j rows) i = runs_turn s n r j rows i
 turn s (zoned_local n records last zones rows) i = zoned_turn s n records last zones rows i
 turn s idle_local i = idle_turn idle_local
-turn s (source_local f m) i = idle_turn (source_local f m)
+turn s (source_local f m o) i = idle_turn (source_local f m o)
 turn s outside_local i = idle_turn outside_local
 
 -- at the end: the first action takes it
@@ -59,7 +59,7 @@ first_at_end s fallback_local = ends_as passes
 first_at_end s (runs_local n r j rows) = runs_end n r j rows
 first_at_end s (zoned_local n records last zones rows) = zoned_end n zones rows (kept_columns (zone_columns n) records)
 first_at_end s idle_local = does TakeEnd
-first_at_end s (source_local f m) = does TakeEnd
+first_at_end s (source_local f m o) = does TakeEnd
 first_at_end s outside_local = does TakeEnd
 
 abbrev pub more_at_end : Setting → Local → List Act
@@ -79,7 +79,7 @@ more_at_end s fallback_local = close_queues (0 ∷ []) ∷ []
 more_at_end s (runs_local n r j rows) = runs_ends s n r j
 more_at_end s (zoned_local n records last zones rows) = zoned_ends s n zones (kept_columns (zone_columns n) records)
 more_at_end s idle_local = []
-more_at_end s (source_local f m) = []
+more_at_end s (source_local f m o) = []
 more_at_end s outside_local = []
 
 -- the children that are started with a task
@@ -100,7 +100,7 @@ firsts_of fallback_local = []
 firsts_of (runs_local n r j rows) = []
 firsts_of (zoned_local n records last zones rows) = zoned_firsts n
 firsts_of idle_local = []
-firsts_of (source_local f m) = source_firsts f m
+firsts_of (source_local f m o) = firsts_at f m o
 firsts_of outside_local = outside_firsts
 
 abbrev pub firsts : Seed → List Seed
@@ -124,7 +124,7 @@ kept fallback_local = []
 kept (runs_local n r j rows) = runs_kept r j
 kept (zoned_local n records last zones rows) = zoned_kept n
 kept idle_local = []
-kept (source_local f m) = source_kept
+kept (source_local f m o) = kept_at o
 kept outside_local = []
 
 -- how far a task's start moves its pointer
@@ -145,5 +145,5 @@ start_indices fallback_local = []
 start_indices (runs_local n r j rows) = []
 start_indices (zoned_local n records last zones rows) = zoned_indices n
 start_indices idle_local = []
-start_indices (source_local f m) = []
+start_indices (source_local f m o) = []
 start_indices outside_local = []

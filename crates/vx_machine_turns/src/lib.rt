@@ -6,7 +6,7 @@ ghost use Rattle.vx_machine_turns.specs.Paths.{TurnsGo, TasksAreGood};
 ghost use Rattle.vx_machine_turns.specs.Planned.{TasksArePlanned, FuelIsEnough, StartFaultsAgree};
 ghost use Rattle.vx_machine_turns.specs.Scripts.{TurnsAreCalm};
 ghost use Rattle.vx_machine_turns.specs.Tidy.{ScriptsAreTidy, FirstsAreStarted};
-ghost use Rattle.vx_machine_turns.specs.Whole.{SourceIsSilent, SourceIsTidy, MachineIsPlanned, MachineIsGood};
+ghost use Rattle.vx_machine_turns.specs.Whole.{SourceIsSilent, SourceIsTidy, MachineIsPlanned, MachineIsGood, RootIsSource};
 
 /// The tasks of a strategy at a type append, refuse, lay out and count what is planned.
 pub fn tasks_are_planned()
@@ -42,10 +42,11 @@ pub fn tasks_are_good()
 {}
 
 /// A strategy's whole machine, with the source on top, is what is planned of the source's batches, and its scripts keep the rules
-/// of the theory.
+/// of the theory: wherever it begins. The root's begins at its first pointer.
 pub fn machines_are_planned()
     ensures silent { SourceIsSilent }
     ensures tidy { SourceIsTidy }
     ensures planned { MachineIsPlanned }
     ensures good { MachineIsGood }
+    ensures root { RootIsSource }
 {}

@@ -6,7 +6,7 @@ use Rattle.vx_path.specs.Lists.{In}
 use Rattle.vx_path.proofs.Lists.{in_left, in_right}
 use Rattle.vx_path.specs.Path.{Eof, under, inside, next}
 use Rattle.vx_layout_spec.specs.LayoutTree.{renamed, flat_layout, gathered}
-use Rattle.vx_machine_view.specs.Images.{Careful}
+use Rattle.vx_machine_state.specs.Images.{Careful}
 use Rattle.vx_tasks.specs.Task.{Join}
 use Rattle.vx_strategy_spec.specs.StrategyData.{FlatOptions}
 use Rattle.vx_plan.specs.PlanData.{Setting, Item, row_total, rows_in}
@@ -21,12 +21,12 @@ use Rattle.vx_machine_turns.specs.Turns.{firsts, start_indices}
 use Rattle.vx_machine_turns.specs.Fuels.{Fuel, spent, fuel, less, Enough}
 use Rattle.vx_machine_steps.specs.Tree.{Head, Tree, Leaf, Work, feed, opened}
 use Rattle.vx_machine_steps.specs.Moves.{due, take_first, end_first, all_paths, all_over, move_own}
-use Rattle.vx_machine_view.specs.State.{Stored, fold_chunks, Next, append, join_kids, Mind, no_chunk, one_chunk, by_chunk, ending, made, Desk, Tasks, no_tasks, task_then}
-use Rattle.vx_machine_view.specs.Start.{first_indices, started_task}
-use Rattle.vx_machine_view.specs.Acts.{count, add, do_act, stored}
-use Rattle.vx_machine_view.specs.Moves.{may_act, own_step}
-use Rattle.vx_machine_view.specs.Built.{Built}
-use Rattle.vx_machine_view.specs.Typed.{Typed, AllTyped}
+use Rattle.vx_machine_state.specs.State.{Stored, fold_chunks, Next, append, join_kids, Mind, no_chunk, one_chunk, by_chunk, ending, made, Desk, Tasks, no_tasks, task_then}
+use Rattle.vx_machine_state.specs.Start.{first_indices, started_task}
+use Rattle.vx_machine_state.specs.Acts.{count, add, do_act, stored}
+use Rattle.vx_machine_state.specs.Moves.{may_act, own_step}
+use Rattle.vx_machine_view.specs.Suited.{Suited}
+use Rattle.vx_machine_state.specs.Typed.{Typed, AllTyped}
 use Rattle.vx_machine_view.specs.Shows.{Counted, Stage, waits_end, appends, splits, gathers_all, Done, Shows, append_of, laid, rows_of, types_of, task_rows, shape_rows}
 use Rattle.vx_machine_view.specs.Steps.{AllPairs, Steady, SameStep}
 use Rattle.vx_machine_view.proofs.Words.{true_false, numbers_in-append, shape_last}
@@ -48,7 +48,7 @@ one_pair P x y false true e f = absurd (true_false (sym e))
 one_pair P x y false false e f = tt
 
 -- how far pointers come where one more child of a chunked task is started
-chunk_opened : (d : Fuel) (n : ChunkedNode) (j : ℕ) (e : Eof) → Enough d (chunked_form n.type n.child) → Built (chunked_form n.type n.child)
+chunk_opened : (d : Fuel) (n : ChunkedNode) (j : ℕ) (e : Eof) → Enough d (chunked_form n.type n.child) → Suited (chunked_form n.type n.child)
     → opened d (seed_of n.child n.mark (under n.name j) (inside e) ∷ []) ≡ first_indices n.child n.mark (inside e)
 chunk_opened spent n j e en b = absurd en
 chunk_opened (fuel g) n j e en b =
@@ -57,7 +57,7 @@ chunk_opened (fuel g) n j e en b =
 
 -- one more child of a chunked task
 chunk_fed : (s : Setting) (number : List ℕ → ℕ) (d : Fuel) (q : Seed) (n : ChunkedNode) (e : Eof) (x : Item) (a : Act) (ks : Tasks) (hs : Tree) → Enough d (chunked_form n.type n.child)
-    → Built (chunked_form n.type n.child) → q.spare ≡ [] → start_fault s n.child n.mark ≡ None → Typed n.type x.1 → Shows s number d q 0 ks hs → n.name ≡ q.name
+    → Suited (chunked_form n.type n.child) → q.spare ≡ [] → start_fault s n.child n.mark ≡ None → Typed n.type x.1 → Shows s number d q 0 ks hs → n.name ≡ q.name
     → a.gives ≡ (count ks, x) ∷ [] → a.shuts ≡ count ks ∷ [] → a.starts ≡ seed_of n.child n.mark (under n.name (count ks)) (inside e) ∷ []
     → Shows s number d q 0 (add ks (started_task n.child n.mark (under q.name (count ks)) (inside e) (x ∷ []) true)) (feed d a 0 hs)
     × (rows_of (feed d a 0 hs) ≡ rows_of hs + rows_in x.1)
@@ -245,7 +245,7 @@ module _ (s : Setting) (number : List ℕ → ℕ) (segment_number : ℕ) (all :
 
     -- ---- chunked
 
-    pub chunks_own : (n : ChunkedNode) (e : Eof) → n.name ≡ q.name → q.type ≡ n.type → q.spare ≡ [] → Built (chunked_form n.type n.child) → Enough (less d q.type) (chunked_form n.type n.child)
+    pub chunks_own : (n : ChunkedNode) (e : Eof) → n.name ≡ q.name → q.type ≡ n.type → q.spare ≡ [] → Suited (chunked_form n.type n.child) → Enough (less d q.type) (chunked_form n.type n.child)
         → Counted past (rows_of hs) → shape_in past ≡ None → (xs : List Item) (closed : Bool) → AllTyped q.type xs
         → Own (by_chunk n.mark n.type n.child e (rows_of hs)) [] [] (chunked_local n (count ks) e (rows_of hs)) false xs closed
     chunks_own n e nm t sp b en ct un [] false ty = tt

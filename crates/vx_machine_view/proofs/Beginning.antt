@@ -17,11 +17,11 @@ use Rattle.vx_machine_turns.specs.Starts.{start_fault, start_faults, marked_form
 use Rattle.vx_machine_turns.specs.Turns.{firsts, start_indices}
 use Rattle.vx_machine_turns.specs.Fuels.{Fuel, spent, fuel, Enough, AllEnough}
 use Rattle.vx_machine_steps.specs.Tree.{Tree, Leaf, Work, fresh, quiet, sprout, opened}
-use Rattle.vx_machine_view.specs.Zoned.{zoner, no_zones}
-use Rattle.vx_machine_view.specs.State.{Mind, by_column, by_list, by_block, by_size, as_one, by_image, Tasks, no_tasks, task_then}
-use Rattle.vx_machine_view.specs.Start.{first_mind, first_kids, field_tasks, waiting, form_count, first_indices, field_indices, started_task}
-use Rattle.vx_machine_view.specs.Built.{Built, AllBuilt, field_types, column_types, list_types}
-use Rattle.vx_machine_view.specs.Typed.{AllTyped}
+use Rattle.vx_machine_state.specs.Zoned.{zoner, no_zones}
+use Rattle.vx_machine_state.specs.State.{Mind, by_column, by_list, by_block, by_size, as_one, by_image, Tasks, no_tasks, task_then}
+use Rattle.vx_machine_state.specs.Start.{first_mind, first_kids, field_tasks, waiting, form_count, first_indices, field_indices, started_task}
+use Rattle.vx_machine_view.specs.Suited.{Suited, AllSuited, field_types, column_types, list_types}
+use Rattle.vx_machine_state.specs.Typed.{AllTyped}
 use Rattle.vx_machine_view.specs.Shows.{Alike, Groups, Stage, waits_first, splits, hands, hands_lists, regroups_rows, regroups_chunks, collects, pressed, asks_first, records_zones, Shows, rows_of, types_of, local_rows}
 use Rattle.vx_machine_view.proofs.Words.{none_some, or_none}
 use Rattle.vx_machine_view.proofs.Feeding.{sprout_none, opened_none}
@@ -34,7 +34,7 @@ one_zero : (x : ℕ) → x ≡ 0 → 0 + (0 + ((x + 0) + 0)) ≡ 0
 one_zero x e = omega (arith, e)
 
 -- it has no rows but those in its queue
-pub fresh_rows : (f : Form) (m : Bool) (name : List ℕ) (e : Eof) (d : Fuel) → Built f → local_rows (local_of f m name e) (0 + rows_of (sprout d quiet 0 (firsts (seed_of f m name e)))) ≡ 0
+pub fresh_rows : (f : Form) (m : Bool) (name : List ℕ) (e : Eof) (d : Fuel) → Suited f → local_rows (local_of f m name e) (0 + rows_of (sprout d quiet 0 (firsts (seed_of f m name e)))) ≡ 0
 fresh_rows (flat_form o t) m name e d b = refl
 fresh_rows (chunked_form t k) m name e d b = refl
 fresh_rows (struct_form fs n (Some a) v ks) m name e d b = refl
@@ -152,7 +152,7 @@ module _ (s : Setting) (number : List ℕ → ℕ) where
   groups_kid into_one t k m name e = refl
 
   mutual
-    pub begun : (f : Form) (m : Bool) (name : List ℕ) (e : Eof) (d : Fuel) → Built f → start_fault s f m ≡ None → Enough d f
+    pub begun : (f : Form) (m : Bool) (name : List ℕ) (e : Eof) (d : Fuel) → Suited f → start_fault s f m ≡ None → Enough d f
         → (Stage s d (first_mind f m e) [] (first_kids f m name e) (seed_of f m name e) [] [] (local_of f m name e) false (sprout d quiet 0 (firsts (seed_of f m name e)))
         × Shows s number d (seed_of f m name e) 0 (first_kids f m name e) (sprout d quiet 0 (firsts (seed_of f m name e))))
     begun (flat_form o t) m name e d b f n = (
@@ -202,7 +202,7 @@ module _ (s : Setting) (number : List ℕ → ℕ) where
         )
     begun (dict_form o t c v w) m name e d b f n = (
       asks_first (record { name = name; mark = m; options = o; type = t; codes = c; values = v; fallback = w; eof = e })
-          (record { name_is = refl; type_is = refl; spare = refl; built = b; enough = n }) refl (record { mind_is = refl; local_is = refl; idle = refl; rest = refl; on = refl; unshaped = refl }),
+          (record { name_is = refl; type_is = refl; spare = refl; suited = b; enough = n }) refl (record { mind_is = refl; local_is = refl; idle = refl; rest = refl; on = refl; unshaped = refl }),
       none_begun d (seed_of (dict_form o t c v w) m name e),
     )
     begun (zoned_form o t k stats) true name e spent b f n = absurd n
@@ -214,7 +214,7 @@ module _ (s : Setting) (number : List ℕ → ℕ) where
         let z : own ≡ 0 = fresh_rows k false (under name 0) (inside e) (g (form_type k)) b.1 in
         let rows : 0 ≡ 0 + ((own + 0) + 0) = omega (arith, z) in (
           records_zones (record { name = name; options = o; type = t; child = k; table = stats; eof = e }) (no_zones (zoner o t stats)) []
-              (record { named = refl; type_is = b.0; spare = refl; built = b; enough = n }) (ap (λ z. z ∷ []) b.0) rows tt
+              (record { named = refl; type_is = b.0; spare = refl; suited = b; enough = n }) (ap (λ z. z ∷ []) b.0) rows tt
               (record { mind_is = refl; local_is = refl; left_is = refl; rest = refl; on = refl; unshaped = refl }),
           (record { name = refl; inbox = refl; closed = refl; places = refl; typed = tt }, inl (begun k false (under name 0) (inside e) (g (form_type k)) b.1 no.1 n.1), tt),
         )
@@ -243,7 +243,7 @@ module _ (s : Setting) (number : List ℕ → ℕ) where
           k.0,
         )
 
-    fields_begun : (ks : Forms) (fs : Tys) (m : Bool) (name : List ℕ) (c : ℕ) (e : Eof) (g : Ty → Fuel) (q : Seed) → q.spare ≡ [] → AllBuilt fs ks → start_faults s ks m ≡ None → AllEnough g ks
+    fields_begun : (ks : Forms) (fs : Tys) (m : Bool) (name : List ℕ) (c : ℕ) (e : Eof) (g : Ty → Fuel) (q : Seed) → q.spare ≡ [] → AllSuited fs ks → start_faults s ks m ≡ None → AllEnough g ks
         → Columns ks fs m name c e g q
     fields_begun no_forms no_fields m name c e g q sp b f n = (tt, refl, refl)
     fields_begun no_forms (field a t fs) m name c e g q sp b f n = absurd b
@@ -257,7 +257,7 @@ module _ (s : Setting) (number : List ℕ → ℕ) where
         )
 
   -- the task alone, with this queue
-  pub task_begun : (g : Ty → Fuel) (q : Seed) (j : ℕ) (f : Form) (m : Bool) (name : List ℕ) (e : Eof) (xs : List Item) (closed : Bool) → get_or q.spare j 0 ≡ 0 → AllTyped (form_type f) xs → Built f
+  pub task_begun : (g : Ty → Fuel) (q : Seed) (j : ℕ) (f : Form) (m : Bool) (name : List ℕ) (e : Eof) (xs : List Item) (closed : Bool) → get_or q.spare j 0 ≡ 0 → AllTyped (form_type f) xs → Suited f
       → start_fault s f m ≡ None → Enough (g (form_type f)) f
       → Shows s number (fuel g) q j (started_task f m name e xs closed)
       (Work (fresh (seed_of f m name e) xs closed) (sprout (g (form_type f)) quiet 0 (firsts (seed_of f m name e))) Leaf)
@@ -284,7 +284,7 @@ pub kid_opened : (k : Form) (m : Bool) (name : List ℕ) (e : Eof) (g : Ty → F
 kid_opened k m name e g h = ap (λ z. start_indices (local_of k m (under name 0) e) ++ z) (append-nil (opened (g (form_type k)) (firsts (seed_of k m (under name 0) e)))) ∙ h
 
 mutual
-  pub opened_is : (f : Form) (m : Bool) (name : List ℕ) (e : Eof) (d : Fuel) → Built f → Enough d f
+  pub opened_is : (f : Form) (m : Bool) (name : List ℕ) (e : Eof) (d : Fuel) → Suited f → Enough d f
       → start_indices (local_of f m name e) ++ opened d (firsts (seed_of f m name e)) ≡ first_indices f m e
   opened_is (flat_form o t) m name e d b n = opened_none d
   opened_is (chunked_form t k) m name e d b n = opened_none d
@@ -330,7 +330,7 @@ mutual
       (one_opened os m name 1 (next e) g [] (first_indices os m (inside (next e))) []
       (opened_is os m (under name 1) (inside (next e)) (g (form_type os)) b.3 h.1) refl ∙ append-nil (first_indices os m (inside (next e)))))
 
-  fields_opened : (ks : Forms) (fs : Tys) (m : Bool) (name : List ℕ) (c : ℕ) (e : Eof) (g : Ty → Fuel) → AllBuilt fs ks → AllEnough g ks
+  fields_opened : (ks : Forms) (fs : Tys) (m : Bool) (name : List ℕ) (c : ℕ) (e : Eof) (g : Ty → Fuel) → AllSuited fs ks → AllEnough g ks
       → opened (fuel g) (column_seeds name c (marked_forms m ks) e) ≡ field_indices ks m e
   fields_opened no_forms no_fields m name c e g b n = refl
   fields_opened no_forms (field a t fs) m name c e g b n = absurd b

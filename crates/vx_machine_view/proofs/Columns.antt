@@ -5,7 +5,7 @@ use Rattle.vx_model.specs.Ty.{Ty, Tys, list, struct, no_fields, field, fields_in
 use Rattle.vx_model.specs.ChunkData.{ChunkData}
 use Rattle.vx_path.specs.Path.{under}
 use Rattle.vx_layout_spec.specs.LayoutTree.{renamed, struct_layout}
-use Rattle.vx_machine_view.specs.Images.{Careful}
+use Rattle.vx_machine_state.specs.Images.{Careful}
 use Rattle.vx_rules.specs.Columns.{struct_columns, list_columns}
 use Rattle.vx_tasks.specs.Task.{Join, TakeEnd}
 use Rattle.vx_tasks.specs.Nodes.{numbers}
@@ -23,11 +23,11 @@ use Rattle.vx_machine_turns.specs.Turns.{firsts}
 use Rattle.vx_machine_turns.specs.Fuels.{Fuel, less}
 use Rattle.vx_machine_steps.specs.Tree.{Head, Tree, Leaf, Work, feed}
 use Rattle.vx_machine_steps.specs.Moves.{take_first, take_more, all_paths, all_over, is_full}
-use Rattle.vx_machine_view.specs.State.{fold_columns, Next, shut_kids, join_kids, Mind, by_column, by_list, ending, made, Desk, Tasks, task_then}
-use Rattle.vx_machine_view.specs.Acts.{count, give, do_act, end_columns, end_lists, puts, column_count}
-use Rattle.vx_machine_view.specs.Moves.{has_room, own_step}
-use Rattle.vx_machine_view.specs.Built.{field_types, column_types, list_types}
-use Rattle.vx_machine_view.specs.Typed.{Typed, AllTyped, EachTyped}
+use Rattle.vx_machine_state.specs.State.{fold_columns, Next, shut_kids, join_kids, Mind, by_column, by_list, ending, made, Desk, Tasks, task_then}
+use Rattle.vx_machine_state.specs.Acts.{count, give, do_act, end_columns, end_lists, puts, column_count}
+use Rattle.vx_machine_state.specs.Moves.{has_room, own_step}
+use Rattle.vx_machine_view.specs.Suited.{field_types, column_types, list_types}
+use Rattle.vx_machine_state.specs.Typed.{Typed, AllTyped, EachTyped}
 use Rattle.vx_machine_view.specs.Shows.{Hands, Stage, hands, hands_lists, shuts, Shows, laid, types_of, local_rows, shape_rows}
 use Rattle.vx_machine_view.specs.Steps.{SameStep}
 use Rattle.vx_machine_view.proofs.Words.{true_false, shape_last, type_fits, columns_each, lists_each, each_length}

@@ -22,14 +22,14 @@ use Rattle.vx_machine_steps.specs.Tree.{Head, Tree, Leaf, Work, ahead, read}
 use Rattle.vx_machine_steps.specs.Moves.{doing, due_todo, all_paths, all_over}
 use Rattle.vx_machine_steps.specs.Laws.{JoinsFree}
 use Rattle.vx_machine_promises.specs.Write.{Write, Future, Answer, unasked, came, over, depth}
-use Rattle.vx_machine_view.specs.Zoned.{Zoner, Zones}
+use Rattle.vx_machine_state.specs.Zoned.{Zoner, Zones}
 use Rattle.vx_machine_view.specs.Zoning.{put_each, zones_left}
-use Rattle.vx_machine_view.specs.State.{fold_runs, Next, shut_kids, join_kids, Mind, no_chunk, one_chunk, by_chunk, by_column, by_list, by_block, by_size, as_one, by_image, as_is, by_probe, asking, by_run, by_zone, ending, passing, made, Desk, Tasks, no_tasks, task_then}
-use Rattle.vx_machine_view.specs.Acts.{count, layouts_in, column_count, probed, take_chunk, end_columns, end_lists, end_zones, take_end, do_take, do_act, puts, hand_all}
-use Rattle.vx_machine_view.specs.Coder.{Coder, coder_of}
-use Rattle.vx_machine_view.specs.Coding.{Deed, puts_codes, puts_values, deed_nexts, runs_laid}
+use Rattle.vx_machine_state.specs.State.{fold_runs, Next, shut_kids, join_kids, Mind, no_chunk, one_chunk, by_chunk, by_column, by_list, by_block, by_size, as_one, by_image, as_is, by_probe, asking, by_run, by_zone, ending, passing, made, Desk, Tasks, no_tasks, task_then}
+use Rattle.vx_machine_state.specs.Acts.{count, layouts_in, column_count, probed, take_chunk, end_columns, end_lists, end_zones, take_end, do_take, do_act, puts, hand_all}
+use Rattle.vx_machine_state.specs.Coder.{Coder, coder_of}
+use Rattle.vx_machine_state.specs.Coding.{Deed, puts_codes, puts_values, deed_nexts, runs_laid}
 use Rattle.vx_machine_view.specs.Deeds.{deed_acts, run_types, Going}
-use Rattle.vx_machine_view.specs.Moves.{Step, all_made, may_act, own_step, in_kids, in_rest, steps}
+use Rattle.vx_machine_state.specs.Moves.{Step, all_made, may_act, own_step, in_kids, in_rest, steps}
 use Rattle.vx_machine_view.specs.Shows.{Counted, Stage, waits_first, waits_end, appends, splits, gathers_all, hands, hands_lists, shuts, joins_columns, regroups_rows, regroups_chunks, collects, presses, pressed, lets_out, asks_first, probes, falls_back, cuts, last_cuts, passes_on, passed, records_zones, closes_zones, joins_data, joins_zones, Done, Shows, types_of}
 use Rattle.vx_machine_view.specs.Machine.{Phase, reading, giving, closing, finished, Machine, may_source, WholeStep, source_step, in_root, whole_steps}
 use Rattle.vx_machine_view.specs.Whole.{form_of, phase_acts, source_at, root_depth, ShowsMachine}
@@ -104,7 +104,7 @@ probe_joins s true n e i todo c ks = refl
 probe_joins s false n e i todo c ks = refl
 
 module _ (s : Setting) (number : List ℕ → ℕ) (next : ℕ) (all : List (List ℕ)) where
-  idle_joins : (c : Desk) (ks : Tasks) → c.todo ≡ [] → (do_act s next c ks c.todo).joined ≡ []
+  pub idle_joins : (c : Desk) (ks : Tasks) → c.todo ≡ [] → (do_act s next c ks c.todo).joined ≡ []
   idle_joins c ks e = ap (λ z. (do_act s next c ks z).joined) e ∙ take_joins s c ks c.inbox
 
   puts_join : (c : Desk) (ks : Tasks) (j : ℕ) (p : List ℕ) (xs : List ChunkData) → (do_act s next c ks (puts j p xs)).joined ≡ []
@@ -136,7 +136,7 @@ module _ (s : Setting) (number : List ℕ → ℕ) (next : ℕ) (all : List (Lis
   nothing : (past : List Act) (ns : List ℕ) → ns ≡ [] → (n : ℕ) → In n ns → Counted past n
   nothing past ns e n i = absurd (subst (In n) e i)
 
-  own_joins : (d : Fuel) (c : Desk) (ks : Tasks) (q : Seed) (past todo : List Act) (l : Local) (off : Bool) (hs : Tree) → Stage s d c.mind c.todo ks q past todo l off hs → Shows s number d q 0 ks hs
+  pub own_joins : (d : Fuel) (c : Desk) (ks : Tasks) (q : Seed) (past todo : List Act) (l : Local) (off : Bool) (hs : Tree) → Stage s d c.mind c.todo ks q past todo l off hs → Shows s number d q 0 ks hs
       → (todo ≡ does Join ∷ [] → all_over hs ≡ true → all_paths hs ≡ []) → may_act all c ks c.todo ≡ true → (n : ℕ) → In n (do_act s next c ks c.todo).joined → Counted past n
   own_joins d c ks q past todo l off hs (waits_first o t k w) sh free m = nothing past (do_act s next c ks c.todo).joined (idle_joins c ks w.idle)
   own_joins d c ks q past todo l off hs (waits_end o t x b k w) sh free m = nothing past (do_act s next c ks c.todo).joined (idle_joins c ks w.idle)
@@ -262,7 +262,7 @@ module _ (s : Setting) (number : List ℕ → ℕ) (next : ℕ) (all : List (Lis
       all_of (inr b) deeper others = lift_rest (of_rest (from_map (in_rest c ks) w (steps s all next more) b) others)
 
 -- the source joins nothing
-source_joins : (a : Answer) (p : Phase) (root : Tasks) → (source_step a p root).joined ≡ []
+pub source_joins : (a : Answer) (p : Phase) (root : Tasks) → (source_step a p root).joined ≡ []
 source_joins unasked (reading e) root = refl
 source_joins (came b) (reading e) root = refl
 source_joins over (reading e) root = refl

@@ -15,13 +15,13 @@ use Rattle.vx_machine_turns.specs.Scripts.{with_holds, all_uses, filled}
 use Rattle.vx_machine_turns.specs.Fuels.{Fuel, less}
 use Rattle.vx_machine_steps.specs.Tree.{Head, Tree, Work, feed}
 use Rattle.vx_machine_steps.specs.Moves.{is_full, all_paths, all_over, take_first, end_first}
-use Rattle.vx_machine_view.specs.State.{fold_runs, Next, join_kids, Mind, by_run, ending, made, Desk, Tasks, no_tasks, task_then}
-use Rattle.vx_machine_view.specs.Coder.{coder_of}
-use Rattle.vx_machine_view.specs.Coding.{Deed, puts_codes, puts_values, run_rows, deeds_at, last_deeds, deed_next, deed_nexts, runs_laid}
-use Rattle.vx_machine_view.specs.Acts.{count, add, give, end_at, run_tasks, layouts_in, folded, do_act}
-use Rattle.vx_machine_view.specs.Moves.{has_room, all_made, own_step}
-use Rattle.vx_machine_view.specs.Images.{Careful}
-use Rattle.vx_machine_view.specs.Typed.{Typed, AllTyped}
+use Rattle.vx_machine_state.specs.State.{fold_runs, Next, join_kids, Mind, by_run, ending, made, Desk, Tasks, no_tasks, task_then}
+use Rattle.vx_machine_state.specs.Coder.{coder_of}
+use Rattle.vx_machine_state.specs.Coding.{Deed, puts_codes, puts_values, run_rows, deeds_at, last_deeds, deed_next, deed_nexts, runs_laid}
+use Rattle.vx_machine_state.specs.Acts.{count, add, give, end_at, run_tasks, layouts_in, folded, do_act}
+use Rattle.vx_machine_state.specs.Moves.{has_room, all_made, own_step}
+use Rattle.vx_machine_state.specs.Images.{Careful}
+use Rattle.vx_machine_state.specs.Typed.{Typed, AllTyped}
 use Rattle.vx_machine_view.specs.Deeds.{deed_act, deed_acts, run_types, Going, run_count, summed, Cutting, Coded}
 use Rattle.vx_machine_view.specs.Shows.{Counted, Stage, cuts, last_cuts, Shows, laid, types_of, task_rows, shape_rows}
 use Rattle.vx_machine_view.specs.Steps.{SameStep}

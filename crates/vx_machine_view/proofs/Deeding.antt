@@ -11,8 +11,8 @@ use Rattle.vx_plan.specs.PlanData.{Setting, Item, rows_in}
 use Rattle.vx_machine_turns.specs.Locals.{DictNode, RunsSoFar}
 use Rattle.vx_machine_turns.specs.Acts.{Act}
 use Rattle.vx_machine_turns.specs.Dict.{Stretch, codes_put, values_put, ended_puts, cut_puts, base_after, ended_rows, open_rows, next_cut, after_cut, last_stretches}
-use Rattle.vx_machine_view.specs.Coder.{coder_of}
-use Rattle.vx_machine_view.specs.Coding.{puts_codes, ended_deeds, cut_deeds, deeds_at, last_deeds, run_rows, runs_laid}
+use Rattle.vx_machine_state.specs.Coder.{coder_of}
+use Rattle.vx_machine_state.specs.Coding.{puts_codes, ended_deeds, cut_deeds, deeds_at, last_deeds, run_rows, runs_laid}
 use Rattle.vx_machine_view.specs.Deeds.{deed_act, deed_acts, run_types, Going, run_count, summed, Cutting}
 
 -- ---- acts

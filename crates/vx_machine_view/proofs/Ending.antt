@@ -14,11 +14,12 @@ use Rattle.vx_machine_steps.specs.Moves.{is_nil, all_over, all_paths, holding, t
 use Rattle.vx_machine_steps.specs.Stands.{Stands, KidsHold}
 use Rattle.vx_machine_steps.proofs.Laws.{end_is_free}
 use Rattle.vx_machine_promises.specs.Write.{Write, Future, depth}
-use Rattle.vx_machine_view.specs.State.{Tasks, no_tasks, task_then}
-use Rattle.vx_machine_view.specs.Acts.{count}
-use Rattle.vx_machine_view.specs.Moves.{is_empty}
+use Rattle.vx_machine_state.specs.State.{Tasks, no_tasks, task_then}
+use Rattle.vx_machine_state.specs.Acts.{count}
+use Rattle.vx_machine_state.specs.Moves.{is_empty}
 use Rattle.vx_machine_view.specs.Shows.{Stage, Done, Shows, laid, types_of}
-use Rattle.vx_machine_view.specs.Machine.{Phase, reading, giving, closing, finished, Machine, has_closed, no_more, is_alone, has_layout, is_done, held_by, phase_ids, machine_ids}
+use Rattle.vx_machine_state.specs.Done.{no_more, is_alone, has_layout, is_done}
+use Rattle.vx_machine_view.specs.Machine.{Phase, reading, giving, closing, finished, Machine, has_closed, held_by, phase_ids, machine_ids}
 use Rattle.vx_machine_view.specs.Whole.{SameHeld, ShowsMachine, form_of, phase_acts, PhaseShape, source_at, root_depth, HeldShows, FinishShows, LayoutShows}
 use Rattle.vx_machine_view.proofs.Words.{no_cons, left_nil, right_nil, no_firsts, and_left, and_right}
 use Rattle.vx_machine_view.proofs.Feeding.{count_types}

@@ -9,10 +9,10 @@ use Rattle.vx_machine_turns.specs.Turns.{firsts}
 use Rattle.vx_machine_turns.specs.Fuels.{Fuel, spent, fuel}
 use Rattle.vx_machine_steps.specs.Tree.{Head, Tree, Leaf, Work, fresh, quiet, sprout, feed, opened}
 use Rattle.vx_machine_steps.specs.Moves.{is_full}
-use Rattle.vx_machine_view.specs.State.{Desk, Tasks, no_tasks, task_then}
-use Rattle.vx_machine_view.specs.Acts.{count, add, give, with_item, shut_all, shut_desk}
-use Rattle.vx_machine_view.specs.Moves.{has_room}
-use Rattle.vx_machine_view.specs.Typed.{Typed, AllTyped}
+use Rattle.vx_machine_state.specs.State.{Desk, Tasks, no_tasks, task_then}
+use Rattle.vx_machine_state.specs.Acts.{count, add, give, with_item, shut_all, shut_desk}
+use Rattle.vx_machine_state.specs.Moves.{has_room}
+use Rattle.vx_machine_state.specs.Typed.{Typed, AllTyped}
 use Rattle.vx_machine_view.specs.Shows.{Alike, Shows, rows_of, types_of, local_rows, task_rows}
 use Rattle.vx_machine_view.proofs.Words.{no_cons, or_nothing, or_all}
 
@@ -58,11 +58,6 @@ feed_types d a j (Work h ks r) e = ap (λ z. h.seed.type ∷ z) (feed_types d a 
 pub count-add : (cs : Tasks) (c : Desk) (ks : Tasks) → count (add cs (task_then c ks no_tasks)) ≡ suc (count cs)
 count-add no_tasks c ks = refl
 count-add (task_then b ls r) c ks = ap suc (count-add r c ks)
-
-pub count-give : (j : ℕ) (i : Item) (cs : Tasks) → count (give j i cs) ≡ count cs
-count-give j i no_tasks = refl
-count-give zero i (task_then c ks r) = refl
-count-give (suc j) i (task_then c ks r) = ap suc (count-give j i r)
 
 pub count-shut : (cs : Tasks) → count (shut_all cs) ≡ count cs
 count-shut no_tasks = refl

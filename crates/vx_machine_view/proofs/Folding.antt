@@ -4,7 +4,7 @@ use Rattle.vx_model.specs.Words.{total_by}
 use Rattle.vx_model.specs.Ty.{Ty}
 use Rattle.vx_path.specs.Path.{is_least}
 use Rattle.vx_layout_spec.specs.LayoutTree.{LayoutData, row_count, renamed, flat_layout, gathered}
-use Rattle.vx_machine_view.specs.Images.{Careful}
+use Rattle.vx_machine_state.specs.Images.{Careful}
 use Rattle.vx_tasks.specs.Task.{Join}
 use Rattle.vx_tasks.specs.Nodes.{numbers}
 use Rattle.vx_plan.specs.PlanData.{Setting, Item, row_total}
@@ -16,10 +16,10 @@ use Rattle.vx_machine_turns.specs.Fuels.{Fuel, less}
 use Rattle.vx_machine_steps.specs.Tree.{Tree, Work, feed}
 use Rattle.vx_machine_steps.specs.Moves.{all_paths, all_over}
 use Rattle.vx_machine_steps.proofs.Plain.{has_number}
-use Rattle.vx_machine_view.specs.State.{Stored, fold_chunks, fold_columns, append, shut_kids, join_kids, Mind, ending, made, Tasks, no_tasks, task_then}
-use Rattle.vx_machine_view.specs.Acts.{count, shut_all, layouts_in, do_act, column_count, columns_layout}
-use Rattle.vx_machine_view.specs.Moves.{all_made, own_step}
-use Rattle.vx_machine_view.specs.Typed.{AllTyped}
+use Rattle.vx_machine_state.specs.State.{Stored, fold_chunks, fold_columns, append, shut_kids, join_kids, Mind, ending, made, Tasks, no_tasks, task_then}
+use Rattle.vx_machine_state.specs.Acts.{count, shut_all, layouts_in, do_act, column_count, columns_layout}
+use Rattle.vx_machine_state.specs.Moves.{all_made, own_step}
+use Rattle.vx_machine_state.specs.Typed.{AllTyped}
 use Rattle.vx_machine_view.specs.Shows.{joins_columns, Shows, columns_of, append_of, laid, rows_of, shape_rows}
 use Rattle.vx_machine_view.specs.Steps.{SameStep}
 use Rattle.vx_machine_view.proofs.Words.{shape_kept, shaped_columns, renamed-columns, columns_rows, rows_of_columns}

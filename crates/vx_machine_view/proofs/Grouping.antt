@@ -4,7 +4,7 @@ use Rattle.std.proofs.lemmas.Bool.Decides.{nat_tests}
 use Rattle.vx_model.specs.Ty.{Ty}
 use Rattle.vx_model.specs.CellData.{CellData}
 use Rattle.vx_model.specs.ChunkData.{ChunkData, cells}
-use Rattle.vx_machine_view.specs.Images.{Careful}
+use Rattle.vx_machine_state.specs.Images.{Careful}
 use Rattle.vx_rules.specs.Regroup.{ranked}
 use Rattle.vx_rules.specs.Stream.{piece_cells}
 use Rattle.vx_tasks.specs.Task.{Take, TakeEnd}
@@ -17,10 +17,10 @@ use Rattle.vx_machine_turns.specs.Scripts.{as_kind, with_holds, all_uses, filled
 use Rattle.vx_machine_turns.specs.Fuels.{Fuel, less}
 use Rattle.vx_machine_steps.specs.Tree.{Head, Tree, Work, feed}
 use Rattle.vx_machine_steps.specs.Moves.{doing, is_full, move_own}
-use Rattle.vx_machine_view.specs.State.{Next, hand_on, shut_kids, Mind, passing, Desk, Tasks, task_then}
-use Rattle.vx_machine_view.specs.Acts.{count, give, shut_all, do_act, hand_all, take_grouped, end_grouped}
-use Rattle.vx_machine_view.specs.Moves.{has_room, own_step}
-use Rattle.vx_machine_view.specs.Typed.{Typed, AllTyped, ChunksTyped, NewestTyped}
+use Rattle.vx_machine_state.specs.State.{Next, hand_on, shut_kids, Mind, passing, Desk, Tasks, task_then}
+use Rattle.vx_machine_state.specs.Acts.{count, give, shut_all, do_act, hand_all, take_grouped, end_grouped}
+use Rattle.vx_machine_state.specs.Moves.{has_room, own_step}
+use Rattle.vx_machine_state.specs.Typed.{Typed, AllTyped, ChunksTyped, NewestTyped}
 use Rattle.vx_machine_view.specs.Shows.{Groups, Stage, passes_on, passed, Shows, rows_of, types_of, task_rows, local_rows, newest_rows, shape_rows}
 use Rattle.vx_machine_view.specs.Steps.{AllPairs, SameStep}
 use Rattle.vx_machine_view.proofs.Words.{shape_last, shape_kept}

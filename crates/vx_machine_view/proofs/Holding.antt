@@ -16,14 +16,14 @@ use Rattle.vx_machine_turns.specs.Fuels.{Fuel, less}
 use Rattle.vx_machine_steps.specs.Tree.{Tree, Leaf, Work}
 use Rattle.vx_machine_steps.specs.Moves.{holding, all_paths}
 use Rattle.vx_machine_steps.specs.Stands.{kept_now, AllHold}
-use Rattle.vx_machine_view.specs.Zoned.{Zones}
+use Rattle.vx_machine_state.specs.Zoned.{Zones}
 use Rattle.vx_machine_view.specs.Zoning.{put_each, zones_mind, zones_left}
-use Rattle.vx_machine_view.specs.State.{fold_runs, Next, shut_kids, join_kids, Mind, Tasks, no_tasks, task_then}
-use Rattle.vx_machine_view.specs.Acts.{puts, hand_all}
+use Rattle.vx_machine_state.specs.State.{fold_runs, Next, shut_kids, join_kids, Mind, Tasks, no_tasks, task_then}
+use Rattle.vx_machine_state.specs.Acts.{puts, hand_all}
 use Rattle.vx_machine_view.specs.Shows.{Stage, waits_first, waits_end, appends, splits, gathers_all, hands, hands_lists, shuts, joins_columns, regroups_rows, regroups_chunks, collects, presses, pressed, lets_out, asks_first, probes, falls_back, cuts, last_cuts, passes_on, passed, records_zones, closes_zones, joins_data, joins_zones, Done, Shows}
 use Rattle.vx_machine_view.specs.Machine.{next_ids, mind_ids, held_by}
-use Rattle.vx_machine_view.specs.Coder.{coder_of}
-use Rattle.vx_machine_view.specs.Coding.{Deed, puts_codes, puts_values, deed_nexts}
+use Rattle.vx_machine_state.specs.Coder.{coder_of}
+use Rattle.vx_machine_state.specs.Coding.{Deed, puts_codes, puts_values, deed_nexts}
 use Rattle.vx_machine_view.specs.Deeds.{deed_acts}
 use Rattle.vx_machine_view.specs.Whole.{SameHeld}
 use Rattle.vx_machine_view.proofs.Words.{carried}

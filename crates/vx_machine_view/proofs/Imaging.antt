@@ -6,8 +6,8 @@ use Rattle.vx_model.specs.Ty.{Ty}
 use Rattle.vx_model.specs.ChunkData.{ChunkData, plain_piece, constant_piece, dict_piece, chunked_piece, list_piece, struct_piece, extension_piece, piece_type, cells, is_sound}
 use Rattle.vx_layout_spec.specs.Real.{is_real, Whole, SameRows}
 use Rattle.vx_plan.specs.PlanData.{rows_in}
-use Rattle.vx_machine_view.specs.Images.{ImagesAreCareful}
-use Rattle.vx_machine_view.specs.Typed.{Typed}
+use Rattle.vx_machine_state.specs.Images.{ImagesAreCareful}
+use Rattle.vx_machine_state.specs.Typed.{Typed}
 use Rattle.vx_machine_view.proofs.Words.{and_left, and_right}
 use Rattle.vx_machine_view.proofs.Sounding.{sound_is_typed}
 

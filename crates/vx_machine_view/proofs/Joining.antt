@@ -20,15 +20,15 @@ use Rattle.vx_machine_turns.specs.Scripts.{filled}
 use Rattle.vx_machine_turns.specs.Fuels.{Fuel, less}
 use Rattle.vx_machine_steps.specs.Tree.{Head, Tree, Leaf, Work}
 use Rattle.vx_machine_steps.specs.Moves.{due, due_todo, due_more, holding, is_nil, all_paths, all_over, tree_moves, move_own, in_kids, in_rest}
-use Rattle.vx_machine_view.specs.State.{Next, shut_kids, Mind, no_chunk, one_chunk, by_chunk, by_column, by_list, by_block, by_size, as_one, by_image, as_is, by_probe, asking, by_run, by_zone, ending, passing, Tasks, no_tasks, task_then}
+use Rattle.vx_machine_state.specs.State.{Next, shut_kids, Mind, no_chunk, one_chunk, by_chunk, by_column, by_list, by_block, by_size, as_one, by_image, as_is, by_probe, asking, by_run, by_zone, ending, passing, Tasks, no_tasks, task_then}
 use Rattle.vx_tasks.specs.Task.{Join}
-use Rattle.vx_machine_view.specs.Coder.{coder_of}
-use Rattle.vx_machine_view.specs.Coding.{Deed}
+use Rattle.vx_machine_state.specs.Coder.{coder_of}
+use Rattle.vx_machine_state.specs.Coding.{Deed}
 use Rattle.vx_machine_view.specs.Deeds.{deed_acts}
-use Rattle.vx_machine_view.specs.Acts.{layout_in, layouts_in, hand_all}
-use Rattle.vx_machine_view.specs.Moves.{is_empty, is_made, all_made}
-use Rattle.vx_machine_view.specs.Machine.{has_layout}
-use Rattle.vx_machine_view.specs.Zoned.{Zones}
+use Rattle.vx_machine_state.specs.Acts.{layout_in, layouts_in, hand_all}
+use Rattle.vx_machine_state.specs.Moves.{is_empty, is_made, all_made}
+use Rattle.vx_machine_state.specs.Done.{has_layout}
+use Rattle.vx_machine_state.specs.Zoned.{Zones}
 use Rattle.vx_machine_view.specs.Zoning.{zoner_of, zones_mind, zones_left, zones_shape}
 use Rattle.vx_machine_view.specs.Shows.{Ends, Stage, waits_first, waits_end, appends, splits, gathers_all, hands, hands_lists, shuts, joins_columns, regroups_rows, regroups_chunks, collects, presses, pressed, lets_out, asks_first, probes, falls_back, cuts, last_cuts, passes_on, passed, records_zones, closes_zones, joins_data, joins_zones, Done, Shows, laid, rows_of, types_of, shape_rows, task_rows}
 use Rattle.vx_machine_view.proofs.Words.{true_false, left_nil, right_nil, no_firsts, and_left, and_right}

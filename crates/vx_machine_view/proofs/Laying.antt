@@ -4,9 +4,9 @@ use Rattle.vx_plan.specs.PlanData.{Setting}
 use Rattle.vx_machine_turns.specs.Acts.{Seed}
 use Rattle.vx_machine_turns.specs.Fuels.{Fuel, less}
 use Rattle.vx_machine_steps.specs.Tree.{Tree, Leaf, Work}
-use Rattle.vx_machine_view.specs.State.{Tasks, no_tasks, task_then}
-use Rattle.vx_machine_view.specs.Acts.{count, layout_in, layouts_in}
-use Rattle.vx_machine_view.specs.Moves.{is_made, all_made}
+use Rattle.vx_machine_state.specs.State.{Tasks, no_tasks, task_then}
+use Rattle.vx_machine_state.specs.Acts.{count, layout_in, layouts_in}
+use Rattle.vx_machine_state.specs.Moves.{is_made, all_made}
 use Rattle.vx_machine_view.specs.Shows.{Stage, Done, Shows}
 use Rattle.vx_machine_view.proofs.Words.{and_left, and_right}
 use Rattle.vx_machine_view.proofs.Feeding.{count_types}

@@ -10,8 +10,7 @@ pub mod Regrouping
 pub mod Zoning
 pub mod Moving
 pub mod Holding
-pub mod Building
-pub mod Tabling
+pub mod Suiting
 pub mod Sounding
 pub mod Ending
 pub mod Wholes

@@ -1,7 +1,7 @@
 -- What tasks can do is what the abstract ones can, on all levels.
 use Rattle.std.proofs.Common.{◌≡◌, ◌+◌, ◌&&◌, ◌⊎◌, ◌∷◌, ◌++◌, ◌∙◌, ℕ, suc, Bool, true, false, cond, not, List, map, length, refl, sym, ap, subst, inl, inr, arith, get_or, Some, []}
 use Rattle.vx_model.specs.ChunkData.{ChunkData, held}
-use Rattle.vx_machine_view.specs.Images.{Careful}
+use Rattle.vx_machine_state.specs.Images.{Careful}
 use Rattle.vx_tasks.specs.Task.{Free, Join}
 use Rattle.vx_tasks.specs.Task.Prompt.{Call}
 use Rattle.vx_tasks.specs.Nodes.{numbers}
@@ -22,12 +22,12 @@ use Rattle.vx_machine_steps.specs.Tree.{Head, Tree, Leaf, Work}
 use Rattle.vx_machine_steps.specs.Moves.{doing, due, due_todo, is_nil, all_paths, all_over, TreeMove, tree_moves, move_own}
 use Rattle.vx_machine_steps.specs.Moves as abstract
 use Rattle.vx_machine_steps.specs.Laws.{JoinsFree}
-use Rattle.vx_machine_view.specs.State.{Next, press, probe, Mind, by_probe, asking, by_chunk, by_column, by_list, by_block, by_size, as_one, by_image, as_is, passing, Desk, Tasks, no_tasks, task_then}
-use Rattle.vx_machine_view.specs.Coder.{coder_of}
-use Rattle.vx_machine_view.specs.Acts.{count, do_act, puts}
-use Rattle.vx_machine_view.specs.Moves.{Step, own_step, in_kids, in_rest, steps, may_act, may_take, is_over}
-use Rattle.vx_machine_view.specs.Built.{column_types, list_types}
-use Rattle.vx_machine_view.specs.Typed.{AllTyped, EachTyped}
+use Rattle.vx_machine_state.specs.State.{Next, press, probe, Mind, by_probe, asking, by_chunk, by_column, by_list, by_block, by_size, as_one, by_image, as_is, passing, Desk, Tasks, no_tasks, task_then}
+use Rattle.vx_machine_state.specs.Coder.{coder_of}
+use Rattle.vx_machine_state.specs.Acts.{count, do_act, puts}
+use Rattle.vx_machine_state.specs.Moves.{Step, own_step, in_kids, in_rest, steps, may_act, may_take, is_over}
+use Rattle.vx_machine_view.specs.Suited.{column_types, list_types}
+use Rattle.vx_machine_state.specs.Typed.{AllTyped, EachTyped}
 use Rattle.vx_machine_view.specs.Shows.{Alike, Hands, Groups, Calls, Counted, Stage, waits_first, waits_end, appends, splits, gathers_all, hands, hands_lists, shuts, joins_columns, regroups_rows, regroups_chunks, collects, presses, pressed, lets_out, asks_first, probes, falls_back, cuts, last_cuts, passes_on, passed, records_zones, closes_zones, joins_data, joins_zones, Done, Shows, rows_of, types_of, local_rows, task_rows}
 use Rattle.vx_machine_view.specs.Steps.{AllPairs, Steady, SameStep, StepsShow}
 use Rattle.vx_machine_view.proofs.Words.{carried, pairs_append, pairs_map}

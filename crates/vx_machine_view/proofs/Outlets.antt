@@ -9,8 +9,8 @@ use Rattle.vx_machine_turns.specs.Starts.{local_of, seed_of}
 use Rattle.vx_machine_turns.specs.Turns.{firsts, start_indices}
 use Rattle.vx_machine_turns.specs.Fuels.{Fuel, spent, fuel, Enough, Through}
 use Rattle.vx_machine_steps.specs.Tree.{quiet, sprout, opened}
-use Rattle.vx_machine_view.specs.State.{as_is, Tasks, no_tasks, task_then}
-use Rattle.vx_machine_view.specs.Start.{first_mind, first_kids, waiting, first_indices}
+use Rattle.vx_machine_state.specs.State.{as_is, Tasks, no_tasks, task_then}
+use Rattle.vx_machine_state.specs.Start.{first_mind, first_kids, waiting, first_indices}
 use Rattle.vx_machine_view.specs.Shows.{Stage, lets_out, Shows, rows_of, local_rows}
 
 abbrev pub outlet_kids : CompressedNode → Tasks

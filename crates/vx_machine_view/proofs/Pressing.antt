@@ -11,11 +11,11 @@ use Rattle.vx_machine_turns.specs.Scripts.{as_kind, with_holds, all_uses, filled
 use Rattle.vx_machine_turns.specs.Fuels.{Fuel, less}
 use Rattle.vx_machine_steps.specs.Tree.{Head, Tree, Work, feed}
 use Rattle.vx_machine_steps.specs.Moves.{doing, take_first, move_own}
-use Rattle.vx_machine_view.specs.State.{Next, press, shut_kids, Mind, by_image, as_is, passing, Desk, Tasks, task_then}
-use Rattle.vx_machine_view.specs.Acts.{give, now, done_as, hand_all, pass_on}
-use Rattle.vx_machine_view.specs.Moves.{own_step}
-use Rattle.vx_machine_view.specs.Images.{Careful}
-use Rattle.vx_machine_view.specs.Typed.{Typed, AllTyped}
+use Rattle.vx_machine_state.specs.State.{Next, press, shut_kids, Mind, by_image, as_is, passing, Desk, Tasks, task_then}
+use Rattle.vx_machine_state.specs.Acts.{give, now, done_as, hand_all, pass_on}
+use Rattle.vx_machine_state.specs.Moves.{own_step}
+use Rattle.vx_machine_state.specs.Images.{Careful}
+use Rattle.vx_machine_state.specs.Typed.{Typed, AllTyped}
 use Rattle.vx_machine_view.specs.Shows.{Groups, Stage, presses, pressed, lets_out, falls_back, passes_on, Shows, rows_of, types_of, local_rows, shape_rows}
 use Rattle.vx_machine_view.specs.Steps.{AllPairs, SameStep}
 use Rattle.vx_machine_view.proofs.Words.{shape_last}

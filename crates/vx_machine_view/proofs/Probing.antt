@@ -14,14 +14,14 @@ use Rattle.vx_machine_turns.specs.Scripts.{as_kind, with_holds, all_uses, filled
 use Rattle.vx_machine_turns.specs.Fuels.{Fuel, less}
 use Rattle.vx_machine_steps.specs.Tree.{Head, Tree, Leaf, Work, feed, opened}
 use Rattle.vx_machine_steps.specs.Moves.{doing, due, move_own}
-use Rattle.vx_machine_view.specs.State.{Next, probe, shut_kids, Mind, as_is, by_probe, asking, by_run, passing, Desk, Tasks, no_tasks, task_then}
-use Rattle.vx_machine_view.specs.Start.{first_indices, started_task}
-use Rattle.vx_machine_view.specs.Coder.{coder_of}
-use Rattle.vx_machine_view.specs.Coding.{no_runs}
-use Rattle.vx_machine_view.specs.Acts.{hand_all, probed, do_act}
-use Rattle.vx_machine_view.specs.Moves.{own_step}
-use Rattle.vx_machine_view.specs.Images.{Careful}
-use Rattle.vx_machine_view.specs.Typed.{Typed, AllTyped}
+use Rattle.vx_machine_state.specs.State.{Next, probe, shut_kids, Mind, as_is, by_probe, asking, by_run, passing, Desk, Tasks, no_tasks, task_then}
+use Rattle.vx_machine_state.specs.Start.{first_indices, started_task}
+use Rattle.vx_machine_state.specs.Coder.{coder_of}
+use Rattle.vx_machine_state.specs.Coding.{no_runs}
+use Rattle.vx_machine_state.specs.Acts.{hand_all, probed, do_act}
+use Rattle.vx_machine_state.specs.Moves.{own_step}
+use Rattle.vx_machine_state.specs.Images.{Careful}
+use Rattle.vx_machine_state.specs.Typed.{Typed, AllTyped}
 use Rattle.vx_machine_view.specs.Deeds.{Coded}
 use Rattle.vx_machine_view.specs.Shows.{Counted, probes, falls_back, cuts, passes_on, Shows, rows_of, types_of, shape_rows}
 use Rattle.vx_machine_view.specs.Steps.{AllPairs, SameStep}

@@ -5,7 +5,7 @@ use Rattle.vx_model.specs.Words.{total_by}
 use Rattle.vx_model.specs.Ty.{Ty}
 use Rattle.vx_model.specs.CellData.{CellData}
 use Rattle.vx_model.specs.ChunkData.{ChunkData, cells, held}
-use Rattle.vx_machine_view.specs.Images.{Careful}
+use Rattle.vx_machine_state.specs.Images.{Careful}
 use Rattle.vx_rules.specs.Blocks.{BlockOptions, block_len, sizes_at, cut_off, left_over, last_block}
 use Rattle.vx_rules.specs.Flushes.{flushed, still_held, is_full, flushes, concatenated}
 use Rattle.vx_rules.specs.Stream.{piece_cells}
@@ -21,9 +21,9 @@ use Rattle.vx_machine_turns.specs.Scripts.{filled}
 use Rattle.vx_machine_turns.specs.Fuels.{Fuel, less}
 use Rattle.vx_machine_steps.specs.Tree.{Tree, feed}
 use Rattle.vx_machine_steps.specs.Moves.{take_first, end_first, end_more}
-use Rattle.vx_machine_view.specs.State.{Next, shut_kids, Mind, by_block, by_size, as_one, passing, Tasks}
-use Rattle.vx_machine_view.specs.Acts.{hand_all}
-use Rattle.vx_machine_view.specs.Typed.{Typed, AllTyped, ChunksTyped, NewestTyped}
+use Rattle.vx_machine_state.specs.State.{Next, shut_kids, Mind, by_block, by_size, as_one, passing, Tasks}
+use Rattle.vx_machine_state.specs.Acts.{hand_all}
+use Rattle.vx_machine_state.specs.Typed.{Typed, AllTyped, ChunksTyped, NewestTyped}
 use Rattle.vx_machine_view.specs.Shows.{NoneHeld, regroups_rows, regroups_chunks, collects, passes_on, Shows, rows_of, types_of, shape_rows}
 use Rattle.vx_machine_view.proofs.Words.{shape_last, type_fits}
 use Rattle.vx_machine_view.proofs.Feeding.{opened_none, Leaves, feed_none, feed_types}

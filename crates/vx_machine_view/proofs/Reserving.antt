@@ -27,18 +27,20 @@ use Rattle.vx_machine_turns.specs.Source.{source_seed}
 use Rattle.vx_machine_turns.specs.Fuels.{Fuel, less}
 use Rattle.vx_machine_steps.specs.Tree.{Tree, Leaf, Work}
 use Rattle.vx_machine_promises.specs.Write.{Answer, unasked, came, over}
-use Rattle.vx_machine_view.specs.Zoned.{Zoner, Zones, table_item}
+use Rattle.vx_machine_state.specs.Zoned.{Zoner, Zones, table_item}
 use Rattle.vx_machine_view.specs.Zoning.{zoner_of, put_each, zones_mind, zones_left}
-use Rattle.vx_machine_view.specs.State.{Fold, fold_runs, Next, put, hand_on, press, probe, open_run, end_run, append, shut_kids, join_kids, start_table, leave_kid, Mind, no_chunk, one_chunk, by_chunk, by_column, by_list, by_block, by_size, as_one, by_image, as_is, by_probe, asking, by_run, by_zone, ending, passing, made, Desk, Tasks, no_tasks, task_then}
-use Rattle.vx_machine_view.specs.Coder.{Coder, coder_of}
-use Rattle.vx_machine_view.specs.Coding.{Deed, puts_codes, puts_values, run_rows, deeds_at, last_deeds, deed_nexts}
-use Rattle.vx_machine_view.specs.Start.{first_mind, first_kids, field_tasks, started_task}
-use Rattle.vx_machine_view.specs.Acts.{count, add, give, shut_at, end_at, fall_back, probed, run_tasks, shut_all, Did, column_count, columns_in, puts, stored, of_length, hand_all, take_chunk, end_columns, end_lists, end_zones, take_end, do_take, do_act}
-use Rattle.vx_machine_view.specs.Moves.{is_empty, all_made, Step, may_act, own_step, in_kids, in_rest, steps}
-use Rattle.vx_machine_view.specs.Machine.{Phase, reading, giving, closing, finished, no_more, is_alone, has_layout, is_done, has_closed, WholeStep, may_source, source_step, in_root}
+use Rattle.vx_machine_state.specs.State.{Fold, fold_runs, Next, put, hand_on, press, probe, open_run, end_run, append, shut_kids, join_kids, start_table, leave_kid, Mind, no_chunk, one_chunk, by_chunk, by_column, by_list, by_block, by_size, as_one, by_image, as_is, by_probe, asking, by_run, by_zone, ending, passing, made, Desk, Tasks, no_tasks, task_then}
+use Rattle.vx_machine_state.specs.Coder.{Coder, coder_of}
+use Rattle.vx_machine_state.specs.Coding.{Deed, puts_codes, puts_values, run_rows, deeds_at, last_deeds, deed_nexts}
+use Rattle.vx_machine_state.specs.Start.{first_mind, first_kids, field_tasks, started_task}
+use Rattle.vx_machine_state.specs.Acts.{count, add, give, shut_at, end_at, fall_back, probed, run_tasks, shut_all, Did, column_count, columns_in, puts, stored, of_length, hand_all, take_chunk, end_columns, end_lists, end_zones, take_end, do_take, do_act}
+use Rattle.vx_machine_state.specs.Moves.{is_empty, all_made, Step, may_act, own_step, in_kids, in_rest, steps}
+use Rattle.vx_machine_state.specs.Done.{no_more, is_alone, has_layout, is_done}
+use Rattle.vx_machine_view.specs.Machine.{Phase, reading, giving, closing, finished, has_closed, WholeStep, may_source, source_step, in_root}
 use Rattle.vx_machine_view.specs.Shows.{NoneHeld, Stage, waits_first, waits_end, appends, splits, gathers_all, hands, hands_lists, shuts, joins_columns, regroups_rows, regroups_chunks, collects, presses, pressed, lets_out, asks_first, probes, falls_back, cuts, last_cuts, passes_on, passed, records_zones, closes_zones, joins_data, joins_zones, Done, Shows, types_of}
 use Rattle.vx_machine_view.specs.Whole.{form_of, root_depth}
-use Rattle.vx_machine_view.specs.Reserved.{next_reserved, mind_reserved, reserved_by, StepsReserve, StartReserves, WholeReserves, FinishReserves}
+use Rattle.vx_machine_state.specs.Reserved.{next_reserved, mind_reserved, reserved_by}
+use Rattle.vx_machine_view.specs.Reserved.{StepsReserve, StartReserves, WholeReserves, FinishReserves}
 use Rattle.vx_machine_view.proofs.Words.{and_left, and_right}
 use Rattle.vx_machine_view.proofs.Feeding.{count_types}
 use Rattle.vx_machine_view.proofs.Joining.{Passed, stage_made}

@@ -6,10 +6,10 @@ use Rattle.vx_model.specs.Ty.{Ty, Tys, boolean, primitive, utf8, binary, list, s
 use Rattle.vx_model.specs.TyLaws.{ty_eq_decides}
 use Rattle.vx_model.specs.ChunkData.{ChunkData, ChunkList, plain_piece, constant_piece, dict_piece, chunked_piece, list_piece, struct_piece, extension_piece, no_pieces, part, pieces_in, piece_type, cells, is_sound, are_sound, match_fields}
 use Rattle.vx_plan.specs.PlanData.{Setting}
-use Rattle.vx_machine_view.specs.State.{Next, put, hand_on, press, probe, open_run, end_run, append, shut_kids, join_kids, start_table, leave_kid, Desk, Tasks, no_tasks, task_then}
-use Rattle.vx_machine_view.specs.Acts.{do_act}
-use Rattle.vx_machine_view.specs.Moves.{may_act, own_step, in_kids, in_rest, steps}
-use Rattle.vx_machine_view.specs.Typed.{fields_at, Typed, PartsTyped}
+use Rattle.vx_machine_state.specs.State.{Next, put, hand_on, press, probe, open_run, end_run, append, shut_kids, join_kids, start_table, leave_kid, Desk, Tasks, no_tasks, task_then}
+use Rattle.vx_machine_state.specs.Acts.{do_act}
+use Rattle.vx_machine_state.specs.Moves.{may_act, own_step, in_kids, in_rest, steps}
+use Rattle.vx_machine_state.specs.Typed.{fields_at, Typed, PartsTyped}
 use Rattle.vx_machine_view.specs.Whole.{SoundIsTyped, LeastAgrees}
 use Rattle.vx_machine_view.proofs.Words.{and_left, and_right}
 

@@ -15,11 +15,11 @@ use Rattle.vx_machine_turns.specs.Turns.{firsts}
 use Rattle.vx_machine_turns.specs.Fuels.{Fuel, spent, fuel}
 use Rattle.vx_machine_steps.specs.Tree.{Tree, Leaf, Work, fresh, quiet, sprout, feed, opened}
 use Rattle.vx_machine_steps.specs.Moves.{is_full}
-use Rattle.vx_machine_view.specs.State.{Tasks, no_tasks, task_then}
-use Rattle.vx_machine_view.specs.Start.{first_indices, started_task}
-use Rattle.vx_machine_view.specs.Coder.{coder_of}
-use Rattle.vx_machine_view.specs.Acts.{count, add, give, with_item, shut_desk, shut_at, end_at, run_tasks}
-use Rattle.vx_machine_view.specs.Typed.{Typed, AllTyped}
+use Rattle.vx_machine_state.specs.State.{Tasks, no_tasks, task_then}
+use Rattle.vx_machine_state.specs.Start.{first_indices, started_task}
+use Rattle.vx_machine_state.specs.Coder.{coder_of}
+use Rattle.vx_machine_state.specs.Acts.{count, add, give, with_item, shut_desk, shut_at, end_at, run_tasks}
+use Rattle.vx_machine_state.specs.Typed.{Typed, AllTyped}
 use Rattle.vx_machine_view.specs.Shows.{Shows, rows_of, types_of}
 use Rattle.vx_machine_view.specs.Deeds.{Coded}
 use Rattle.vx_machine_view.proofs.Words.{or_none, or_all}
@@ -37,7 +37,7 @@ not_full q j c (Work h ks r) l = let e : nat_eq j c ≡ false = grind (arith, na
 
 pub back_opened : (d : Fuel) (q : Seed) (n : DictNode) (a : Act) → Coded q d n → a.starts ≡ fallback_seed n ∷ [] → opened d a.starts ≡ first_indices n.fallback n.mark n.eof
 back_opened spent q n a k st = absurd k.enough
-back_opened (fuel g) q n a k st = ap (opened (fuel g)) st ∙ kid_opened n.fallback n.mark n.name n.eof g (opened_is n.fallback n.mark (under n.name 0) n.eof (g (form_type n.fallback)) k.built.5 k.enough.2)
+back_opened (fuel g) q n a k st = ap (opened (fuel g)) st ∙ kid_opened n.fallback n.mark n.name n.eof g (opened_is n.fallback n.mark (under n.name 0) n.eof (g (form_type n.fallback)) k.suited.5 k.enough.2)
 
 module _ (s : Setting) (number : List ℕ → ℕ) where
   -- new children behind those that an act leaves as they are
@@ -67,9 +67,9 @@ module _ (s : Setting) (number : List ℕ → ℕ) where
   back_shows (fuel g) q n a k f gs sh st = (
     subst (λ z. Shows s number (fuel g) q 0 (started_task n.fallback n.mark (under z 0) n.eof [] false) (feed (fuel g) a 0 Leaf)) k.name_is
         (subst (Shows s number (fuel g) q 0 (started_task n.fallback n.mark (under n.name 0) n.eof [] false)) (sym is)
-        (task_begun s number g q 0 n.fallback n.mark (under n.name 0) n.eof [] false (ap (λ z. get_or z 0 0) k.spare) tt k.built.5 f k.enough.2)),
-    ap types_of is ∙ ap (λ z. z ∷ []) k.built.4,
-    ap rows_of is ∙ (let e = fresh_rows n.fallback n.mark (under n.name 0) n.eof (g (form_type n.fallback)) k.built.5 in ap (λ z. (z + 0) + 0) e),
+        (task_begun s number g q 0 n.fallback n.mark (under n.name 0) n.eof [] false (ap (λ z. get_or z 0 0) k.spare) tt k.suited.5 f k.enough.2)),
+    ap types_of is ∙ ap (λ z. z ∷ []) k.suited.4,
+    ap rows_of is ∙ (let e = fresh_rows n.fallback n.mark (under n.name 0) n.eof (g (form_type n.fallback)) k.suited.5 in ap (λ z. (z + 0) + 0) e),
   )
     where
       is : feed (fuel g) a 0 Leaf ≡ Work (fresh (fallback_seed n) [] false) (sprout (g (form_type n.fallback)) quiet 0 (firsts (fallback_seed n))) Leaf
@@ -96,11 +96,11 @@ module _ (s : Setting) (number : List ℕ → ℕ) where
 
       first : Shows s number (fuel g) q c (started_task n.codes n.mark (under n.name c) (inside e) (i ∷ []) false)
           (Work (fresh (seed_of n.codes n.mark (under n.name c) (inside e)) (i ∷ []) false) (sprout (g (form_type n.codes)) quiet 0 (firsts (seed_of n.codes n.mark (under n.name c) (inside e)))) Leaf)
-      first = task_begun s number g q c n.codes n.mark (under n.name c) (inside e) (i ∷ []) false (ap (λ z. get_or z c 0) k.spare) (subst (λ z. Typed z i.1) (sym k.built.0) ti, tt) k.built.1 no.0 k.enough.0
+      first = task_begun s number g q c n.codes n.mark (under n.name c) (inside e) (i ∷ []) false (ap (λ z. get_or z c 0) k.spare) (subst (λ z. Typed z i.1) (sym k.suited.0) ti, tt) k.suited.1 no.0 k.enough.0
 
       second : Shows s number (fuel g) q (suc c) (started_task n.values n.mark (under n.name (suc c)) (inside (next e)) [] false)
           (Work (fresh (seed_of n.values n.mark (under n.name (suc c)) (inside (next e))) [] false) (sprout (g (form_type n.values)) quiet 0 (firsts (seed_of n.values n.mark (under n.name (suc c)) (inside (next e))))) Leaf)
-      second = task_begun s number g q (suc c) n.values n.mark (under n.name (suc c)) (inside (next e)) [] false (ap (λ z. get_or z (suc c) 0) k.spare) tt k.built.3 no.1 k.enough.1
+      second = task_begun s number g q (suc c) n.values n.mark (under n.name (suc c)) (inside (next e)) [] false (ap (λ z. get_or z (suc c) 0) k.spare) tt k.suited.3 no.1 k.enough.1
 
       gets : for_child c a.gives ≡ i ∷ []
       gets = ap (for_child c) gs ∙ (let z : nat_eq c c ≡ true = grind (arith, nat_tests) in ap (λ y. cond y (i ∷ []) []) z)
@@ -120,11 +120,11 @@ module _ (s : Setting) (number : List ℕ → ℕ) where
   run_kinds spent q n c e a hs k is st = absurd k.enough
   run_kinds (fuel g) q n c e a hs k is st = (
     types_behind (fuel g) a 0 c hs (omega (arith, is)) ∙ ap (λ z. types_of hs ++ types_of (sprout (fuel g) a c z)) st
-        ∙ ap (λ z. types_of hs ++ (z ∷ form_type n.values ∷ [])) k.built.0 ∙ ap (λ z. types_of hs ++ (code_type n.options ∷ z ∷ [])) k.built.2,
+        ∙ ap (λ z. types_of hs ++ (z ∷ form_type n.values ∷ [])) k.suited.0 ∙ ap (λ z. types_of hs ++ (code_type n.options ∷ z ∷ [])) k.suited.2,
     ap (opened (fuel g)) st
         ∙ one_opened n.codes n.mark n.name c e g (seed_of n.values n.mark (under n.name (suc c)) (inside (next e)) ∷ []) (first_indices n.codes n.mark (inside e)) (first_indices n.values n.mark (inside (next e)))
-        (opened_is n.codes n.mark (under n.name c) (inside e) (g (form_type n.codes)) k.built.1 k.enough.0)
-        (one_opened n.values n.mark n.name (suc c) (next e) g [] (first_indices n.values n.mark (inside (next e))) [] (opened_is n.values n.mark (under n.name (suc c)) (inside (next e)) (g (form_type n.values)) k.built.3 k.enough.1) refl
+        (opened_is n.codes n.mark (under n.name c) (inside e) (g (form_type n.codes)) k.suited.1 k.enough.0)
+        (one_opened n.values n.mark n.name (suc c) (next e) g [] (first_indices n.values n.mark (inside (next e))) [] (opened_is n.values n.mark (under n.name (suc c)) (inside (next e)) (g (form_type n.values)) k.suited.3 k.enough.1) refl
         ∙ append-nil (first_indices n.values n.mark (inside (next e)))),
   )
 

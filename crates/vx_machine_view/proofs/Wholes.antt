@@ -3,7 +3,7 @@ use Rattle.std.proofs.Common.{◌≡◌, ◌+◌, ◌<◌, ◌||◌, ◌∷◌, 
 use Rattle.std.proofs.lemmas.Bool.Decides.{nat_tests}
 use Rattle.vx_model.specs.ChunkData.{ChunkData}
 use Rattle.vx_path.specs.Path.{Eof, eof_path, next, root_eof}
-use Rattle.vx_machine_view.specs.Images.{Careful}
+use Rattle.vx_machine_state.specs.Images.{Careful}
 use Rattle.vx_tasks.specs.Task.{Free, Put, Batch, End, Close}
 use Rattle.vx_tasks.specs.Run.{nth}
 use Rattle.vx_plan.specs.PlanData.{Item}
@@ -20,10 +20,10 @@ use Rattle.vx_machine_steps.specs.Laws.{JoinsFree}
 use Rattle.vx_machine_steps.specs.Stands.{Stands}
 use Rattle.vx_machine_steps.proofs.Laws.{joins_are_free}
 use Rattle.vx_machine_promises.specs.Write.{Write, Future, Open, Answer, unasked, came, over, depth, before, heard_by}
-use Rattle.vx_machine_view.specs.State.{Tasks}
-use Rattle.vx_machine_view.specs.Acts.{count, give, shut_all}
-use Rattle.vx_machine_view.specs.Moves.{has_room, Step, steps}
-use Rattle.vx_machine_view.specs.Typed.{Typed}
+use Rattle.vx_machine_state.specs.State.{Tasks}
+use Rattle.vx_machine_state.specs.Acts.{count, give, shut_all}
+use Rattle.vx_machine_state.specs.Moves.{has_room, Step, steps}
+use Rattle.vx_machine_state.specs.Typed.{Typed}
 use Rattle.vx_machine_view.specs.Shows.{Shows, types_of}
 use Rattle.vx_machine_view.specs.Steps.{AllPairs, Steady, SameStep}
 use Rattle.vx_machine_view.specs.Machine.{Phase, reading, giving, closing, finished, Machine, may_source, WholeStep, source_did, read_batch, source_step, in_root, whole_steps, phase_ids}
@@ -31,7 +31,7 @@ use Rattle.vx_machine_view.specs.Whole.{form_of, phase_acts, PhaseTyped, PhaseSh
 use Rattle.vx_machine_view.proofs.Words.{true_false, no_cons, pairs_append, pairs_map, pairs_length, pairs_nth, same_some, shape_last, shape_kept}
 use Rattle.vx_machine_view.proofs.Feeding.{opened_none, Leaves, feed_none, feed_types, count_types, room_is, given, shut_shows}
 use Rattle.vx_machine_view.proofs.Beginning.{task_begun}
-use Rattle.vx_machine_view.proofs.Building.{built_is_built}
+use Rattle.vx_machine_view.proofs.Suiting.{forms_are_suited}
 use Rattle.vx_machine_view.proofs.Acting.{one_pair}
 use Rattle.vx_machine_view.proofs.Moving.{steps_show}
 
@@ -50,11 +50,11 @@ has_asked finished = false
 -- ---- the start
 
 pub start_shows : StartShows
-start_shows g number f b n = record {
+start_shows g number f n = record {
   past = [];
   kids = sprout (root_depth g) quiet 0 (firsts (source_seed (form_of g) g.mark));
   tree_is = refl;
-  root = task_begun g.setting number (λ u. fuel_of (form_of g)) (source_seed (form_of g) g.mark) 0 (form_of g) g.mark (1 ∷ []) root_eof [] false refl tt (built_is_built g.way g.type b)
+  root = task_begun g.setting number (λ u. fuel_of (form_of g)) (source_seed (form_of g) g.mark) 0 (form_of g) g.mark (1 ∷ []) root_eof [] false refl tt (forms_are_suited g.way g.type)
       (start_faults_agree g.setting g.way g.type g.mark ∙ n) (fuel_is_enough g.way g.type).1;
   one = ap (λ z. z ∷ []) (fuel_is_enough g.way g.type).0;
   typed = tt;

@@ -4,19 +4,19 @@ use Rattle.vx_model.specs.Ty.{Ty, Tys, boolean, primitive, utf8, binary, list, s
 use Rattle.vx_model.specs.TyLaws.{ty_eq_decides}
 use Rattle.vx_model.specs.CellData.{CellData}
 use Rattle.vx_model.specs.ChunkData.{ChunkData, ChunkList, plain_piece, constant_piece, dict_piece, chunked_piece, list_piece, struct_piece, extension_piece, no_pieces, part, pieces_in, piece_type, cells}
-use Rattle.vx_layout_spec.specs.LayoutTree.{LayoutData, layout, child, lays_of, row_count, renamed, each_renamed, struct_layout, struct_kind, list_kind}
+use Rattle.vx_layout_spec.specs.LayoutTree.{LayoutData, layout, child, lays_of, row_count, renamed, each_renamed, struct_kind, list_kind}
 use Rattle.vx_layout_spec.specs.Parts.{others_of, plain_fields, field_pieces}
 use Rattle.vx_rules.specs.Columns.{struct_columns, list_columns}
 use Rattle.vx_tasks.specs.Run.{nth}
 use Rattle.vx_plan.specs.PlanData.{Item}
 use Rattle.vx_machine_turns.specs.Locals.{Local}
 use Rattle.vx_machine_turns.specs.Acts.{Act, Shape, or_else, shape_in, numbers_in}
-use Rattle.vx_machine_view.specs.State.{Next, Mind}
+use Rattle.vx_machine_state.specs.State.{Next, Mind}
 use Rattle.vx_machine_turns.specs.Readings.{shaped}
-use Rattle.vx_machine_view.specs.Acts.{columns_layout}
-use Rattle.vx_machine_view.specs.Built.{field_types, column_types, list_types}
+use Rattle.vx_machine_state.specs.Acts.{columns_layout}
+use Rattle.vx_machine_view.specs.Suited.{field_types, column_types, list_types}
 use Rattle.vx_machine_view.specs.Shows.{columns_of, shape_rows}
-use Rattle.vx_machine_view.specs.Typed.{Typed, PartsTyped, EachTyped}
+use Rattle.vx_machine_state.specs.Typed.{Typed, PartsTyped, EachTyped}
 use Rattle.vx_machine_view.specs.Steps.{AllPairs}
 
 pub none_some : {A : Type 0} (x : A) → None ≡ Some x → ⊥
@@ -166,9 +166,6 @@ rows_of_columns (primitive p b) n ls = refl
 rows_of_columns (utf8 b) n ls = refl
 rows_of_columns (binary b) n ls = refl
 rows_of_columns (extension tag t) n ls = refl
-
-pub renamed-struct : (f : List ℕ → ℕ) (t : Ty) (n : ℕ) (ls : List (LayoutData (List ℕ))) → renamed f (struct_layout t n ls) ≡ struct_layout t n (map (renamed f) ls)
-renamed-struct f t n ls = ap (λ z. layout struct_kind t n [] z) (each_renamed-lays_of f ls)
 
 -- ---- chunks
 

@@ -5,7 +5,7 @@ use Rattle.vx_model.specs.Ty.{Ty}
 use Rattle.vx_model.specs.ChunkData.{pieces_of}
 use Rattle.vx_path.specs.Path.{under, next}
 use Rattle.vx_layout_spec.specs.LayoutTree.{LayoutData, Spec, row_count, renamed}
-use Rattle.vx_machine_view.specs.Images.{Careful}
+use Rattle.vx_machine_state.specs.Images.{Careful}
 use Rattle.vx_zone_spec.specs.ZoneTable.{Filled, kept_columns, table_fields, table_type, table_columns, table_specs, table_piece}
 use Rattle.vx_tasks.specs.Task.{Join, TakeEnd}
 use Rattle.vx_plan.specs.PlanData.{Setting, Item, row_total, rows_in}
@@ -20,12 +20,12 @@ use Rattle.vx_machine_turns.specs.Turns.{firsts, start_indices}
 use Rattle.vx_machine_turns.specs.Fuels.{Fuel, spent, fuel, less}
 use Rattle.vx_machine_steps.specs.Tree.{Head, Tree, Leaf, Work, feed, sprout, opened}
 use Rattle.vx_machine_steps.specs.Moves.{take_first, take_more, all_paths, all_over, is_full}
-use Rattle.vx_machine_view.specs.Zoned.{Zones, one_zone, table_item}
-use Rattle.vx_machine_view.specs.State.{Next, put, shut_kids, Mind, by_zone, ending, passing, made, Desk, Tasks, no_tasks, task_then}
-use Rattle.vx_machine_view.specs.Start.{first_indices, started_task}
-use Rattle.vx_machine_view.specs.Acts.{count, add, give, shut_all, layouts_in, do_act, zones_layout, end_zones}
-use Rattle.vx_machine_view.specs.Moves.{has_room, all_made, own_step}
-use Rattle.vx_machine_view.specs.Typed.{Typed, PartsTyped, AllTyped}
+use Rattle.vx_machine_state.specs.Zoned.{Zones, one_zone, table_item}
+use Rattle.vx_machine_state.specs.State.{Next, put, shut_kids, Mind, by_zone, ending, passing, made, Desk, Tasks, no_tasks, task_then}
+use Rattle.vx_machine_state.specs.Start.{first_indices, started_task}
+use Rattle.vx_machine_state.specs.Acts.{count, add, give, shut_all, layouts_in, do_act, zones_layout, end_zones}
+use Rattle.vx_machine_state.specs.Moves.{has_room, all_made, own_step}
+use Rattle.vx_machine_state.specs.Typed.{Typed, PartsTyped, AllTyped}
 use Rattle.vx_machine_view.specs.Zoning.{zoner_of, put_each, IsZoned, zones_mind, lay_zones, zones_left, zones_shape}
 use Rattle.vx_machine_view.specs.Shows.{Stage, passed, records_zones, closes_zones, joins_data, joins_zones, Done, Shows, laid, rows_of, types_of, shape_rows}
 use Rattle.vx_machine_view.specs.Steps.{SameStep}
@@ -54,7 +54,7 @@ table_opened spent q n cs iz = absurd iz.enough
 table_opened (fuel g) q n cs iz =
     let f : Form = n.table (table_type cs) in
     ap (λ z. start_indices (local_of f false (under n.name 1) (next (next n.eof))) ++ z) (append-nil (opened (g (form_type f)) (firsts (table_seed n cs))))
-    ∙ opened_is f false (under n.name 1) (next (next n.eof)) (g (form_type f)) (iz.built.2 (table_type cs)).1 (iz.enough.2 (table_type cs))
+    ∙ opened_is f false (under n.name 1) (next (next n.eof)) (g (form_type f)) (iz.suited.2 (table_type cs)).1 (iz.enough.2 (table_type cs))
 
 -- it stands behind the data child
 table_fed : (s : Setting) (number : List ℕ → ℕ) (d : Fuel) (q : Seed) (n : ZonedNode) (cs : List Filled) (zones : ℕ) (a : Act) (ks : Tasks) (hs : Tree) → IsZoned d q n → types_of hs ≡ n.type ∷ []
@@ -65,13 +65,13 @@ table_fed s number spent q n cs zones a ks hs iz one f k gs sh st = absurd iz.en
 table_fed s number (fuel g) q n cs zones a ks hs iz one f k gs sh st =
     let form : Form = n.table (table_type cs) in
     let item : Item = table_item (next n.eof) (table_piece cs zones) in
-    let is_type : form_type form ≡ table_type cs = (iz.built.2 (table_type cs)).0 in
+    let is_type : form_type form ≡ table_type cs = (iz.suited.2 (table_type cs)).0 in
     let many : count ks ≡ 1 = count_types s number (fuel g) q 0 ks hs k ∙ ap length one in
     let c : 1 ≡ 0 + count ks = omega (arith, many) in (
       subst (λ z. Shows s number (fuel g) q 0 (add ks (started_task form false (under z 1) (next (next n.eof)) (item ∷ []) true)) (feed (fuel g) a 0 hs)) iz.named
           (one_more s number g q 0 1 a item (table_seed n cs) ks (started_task form false (under n.name 1) (next (next n.eof)) (item ∷ []) true) hs k c gs sh st
           (task_begun s number g q 1 form false (under n.name 1) (next (next n.eof)) (item ∷ []) true (ap (λ z. get_or z 1 0) iz.spare)
-          (subst (λ z. Typed z (table_piece cs zones)) (sym is_type) (refl, table_typed cs), tt) (iz.built.2 (table_type cs)).1 f (iz.enough.2 (table_type cs)))),
+          (subst (λ z. Typed z (table_piece cs zones)) (sym is_type) (refl, table_typed cs), tt) (iz.suited.2 (table_type cs)).1 f (iz.enough.2 (table_type cs)))),
       types_more g a 0 (table_seed n cs) hs st ∙ ap (λ z. z ++ (form_type form ∷ [])) one ∙ ap (λ z. n.type ∷ z ∷ []) is_type,
     )
 

@@ -11,9 +11,9 @@ use Rattle.vx_machine_turns.specs.Acts.{Seed, Act, put_item, or_else}
 use Rattle.vx_machine_turns.specs.Starts.{start_fault}
 use Rattle.vx_machine_turns.specs.Dict.{run_seeds}
 use Rattle.vx_machine_turns.specs.Fuels.{Fuel, Enough}
-use Rattle.vx_machine_view.specs.Built.{Built}
-use Rattle.vx_machine_view.specs.Typed.{Typed}
-use Rattle.vx_machine_view.specs.Coding.{Deed, puts_codes, puts_values}
+use Rattle.vx_machine_view.specs.Suited.{Suited}
+use Rattle.vx_machine_state.specs.Typed.{Typed}
+use Rattle.vx_machine_state.specs.Coding.{Deed, puts_codes, puts_values}
 
 abbrev pub deed_act : Setting → DictNode → Deed → Act
 deed_act s n (puts_codes j e true i) = put_item j i
@@ -56,5 +56,5 @@ pub record Coded (q : Seed) (d : Fuel) (n : DictNode) : Type 0 where
   pub name_is : n.name ≡ q.name
   pub type_is : q.type ≡ n.type
   pub spare : q.spare ≡ []
-  pub built : Built (dict_form n.options n.type n.codes n.values n.fallback)
+  pub suited : Suited (dict_form n.options n.type n.codes n.values n.fallback)
   pub enough : Enough d (dict_form n.options n.type n.codes n.values n.fallback)

@@ -1,15 +1,5 @@
-pub mod Zoned
-pub mod Coder
-pub mod State
-pub mod Start
-pub mod Coding
-pub mod Acts
-pub mod Moves
 pub mod Machine
-pub mod Built
-pub mod Images
-pub mod Tables
-pub mod Typed
+pub mod Suited
 pub mod Zoning
 pub mod Deeds
 pub mod Shows

@@ -30,15 +30,15 @@ use Rattle.vx_machine_turns.specs.Turns.{kept}
 use Rattle.vx_machine_turns.specs.Scripts.{filled}
 use Rattle.vx_machine_steps.specs.Tree.{Head, Tree, Leaf, Work}
 use Rattle.vx_machine_steps.specs.Moves.{all_paths, all_over}
-use Rattle.vx_machine_view.specs.State.{Stored, fold_chunks, fold_columns, fold_runs, Next, press, probe, append, shut_kids, join_kids, Mind, no_chunk, one_chunk, by_chunk, by_column, by_list, by_block, by_size, as_one, by_image, as_is, by_probe, asking, by_run, ending, passing, made, Desk, Tasks, no_tasks, task_then}
-use Rattle.vx_machine_view.specs.Acts.{count, column_count, puts, hand_all}
-use Rattle.vx_machine_view.specs.Coder.{coder_of}
-use Rattle.vx_machine_view.specs.Coding.{Deed, deed_nexts}
+use Rattle.vx_machine_state.specs.State.{Stored, fold_chunks, fold_columns, fold_runs, Next, press, probe, append, shut_kids, join_kids, Mind, no_chunk, one_chunk, by_chunk, by_column, by_list, by_block, by_size, as_one, by_image, as_is, by_probe, asking, by_run, ending, passing, made, Desk, Tasks, no_tasks, task_then}
+use Rattle.vx_machine_state.specs.Acts.{count, column_count, puts, hand_all}
+use Rattle.vx_machine_state.specs.Coder.{coder_of}
+use Rattle.vx_machine_state.specs.Coding.{Deed, deed_nexts}
 use Rattle.vx_machine_view.specs.Deeds.{deed_acts, run_types, Going, run_count, summed, Cutting, Coded}
-use Rattle.vx_machine_view.specs.Built.{Built, column_types, list_types}
-use Rattle.vx_machine_view.specs.Zoned.{Zones}
+use Rattle.vx_machine_view.specs.Suited.{Suited, column_types, list_types}
+use Rattle.vx_machine_state.specs.Zoned.{Zones}
 use Rattle.vx_machine_view.specs.Zoning.{IsZoned, Records, zones_mind, lay_zones, zones_left, zones_shape}
-use Rattle.vx_machine_view.specs.Typed.{Typed, AllTyped, EachTyped, ChunksTyped, NewestTyped}
+use Rattle.vx_machine_state.specs.Typed.{Typed, AllTyped, EachTyped, ChunksTyped, NewestTyped}
 
 -- ---- what is read off the abstract tree
 
@@ -85,7 +85,7 @@ local_rows fallback_local below = below
 local_rows (runs_local n r j rows) below = rows
 local_rows (zoned_local n records last zones rows) below = rows
 local_rows idle_local below = 0
-local_rows (source_local f m) below = 0
+local_rows (source_local f m o) below = 0
 local_rows outside_local below = 0
 
 abbrev pub task_rows : Bool → Local → List Act → ℕ → ℕ
@@ -219,7 +219,7 @@ pub data Stage (s : Setting) (d : Fuel) (mind : Mind) (left : List Next) (ks : T
   appends : (x : Stored) → ks ≡ no_tasks → Ends mind left past todo over ending (append x ∷ []) (append_of x ∷ []) (alone (flat_layout x.type x.rows s.encodings x.tree x.id))
       → Stage s d mind left ks q past todo l over hs
   -- the children have all rows so far
-  splits : (n : ChunkedNode) (e : Eof) → n.name ≡ q.name → q.type ≡ n.type → q.spare ≡ [] → Built (chunked_form n.type n.child) → Enough d (chunked_form n.type n.child)
+  splits : (n : ChunkedNode) (e : Eof) → n.name ≡ q.name → q.type ≡ n.type → q.spare ≡ [] → Suited (chunked_form n.type n.child) → Enough d (chunked_form n.type n.child)
       → Counted past (rows_of hs) → Rests mind left past todo l over (by_chunk n.mark n.type n.child e (rows_of hs)) (chunked_local n (count ks) e (rows_of hs))
       → Stage s d mind left ks q past todo l over hs
   gathers_all : (t : Ty) → Counted past (rows_of hs) → Ends mind left past todo over ending (join_kids (fold_chunks t) ∷ []) (does Join ∷ []) (gathers t (rows_of hs))

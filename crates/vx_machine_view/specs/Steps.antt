@@ -1,6 +1,6 @@
 -- What the program's tasks would do against what the abstract ones can do.
 use Rattle.std.specs.Prelude.{◌≡◌, ℕ, List, [], ◌∷◌, ◌++◌, IsFalse}
-use Rattle.vx_machine_view.specs.Images.{Careful}
+use Rattle.vx_machine_state.specs.Images.{Careful}
 use Rattle.vx_tasks.specs.Task.Kind.{Append}
 use Rattle.vx_plan.specs.PlanData.{Setting}
 use Rattle.vx_machine_turns.specs.Acts.{Seed, refuses, written_by}
@@ -8,9 +8,9 @@ use Rattle.vx_machine_turns.specs.Fuels.{Fuel}
 use Rattle.vx_machine_steps.specs.Tree.{Tree, opened}
 use Rattle.vx_machine_steps.specs.Moves.{TreeMove, tree_moves}
 use Rattle.vx_machine_steps.specs.Laws.{JoinsFree}
-use Rattle.vx_machine_view.specs.State.{Tasks}
-use Rattle.vx_machine_view.specs.Acts.{count}
-use Rattle.vx_machine_view.specs.Moves.{Step, steps}
+use Rattle.vx_machine_state.specs.State.{Tasks}
+use Rattle.vx_machine_state.specs.Acts.{count}
+use Rattle.vx_machine_state.specs.Moves.{Step, steps}
 use Rattle.vx_machine_view.specs.Shows.{Shows, rows_of, types_of}
 
 -- the lists go in step

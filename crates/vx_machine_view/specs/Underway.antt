@@ -3,7 +3,7 @@ use Rattle.std.specs.Prelude.{◌≡◌, ◌+◌, ◌%◌, ◌<◌, ◌⊎◌, �
 use Rattle.vx_model.specs.ChunkData.{ChunkData}
 use Rattle.vx_path.specs.Lists.{In}
 use Rattle.vx_layout_spec.specs.LayoutTree.{renamed}
-use Rattle.vx_machine_view.specs.Images.{Careful}
+use Rattle.vx_machine_state.specs.Images.{Careful}
 use Rattle.vx_tasks.specs.Task.{Append}
 use Rattle.vx_tasks.specs.Run.{Note, nth, first_pick}
 use Rattle.vx_tasks.specs.Runs.{noted}
@@ -17,7 +17,7 @@ use Rattle.vx_machine_steps.specs.Runs.{picks_after}
 use Rattle.vx_machine_steps.specs.Stands.{Stands}
 use Rattle.vx_machine_promises.specs.Write.{Write, Future, Open, Answer, depth, planned, taken_by, heard_by, before}
 use Rattle.vx_machine_promises.specs.Reached.{Reached, moves_at, Stepped}
-use Rattle.vx_machine_view.specs.Acts.{layouts_in}
+use Rattle.vx_machine_state.specs.Acts.{layouts_in}
 use Rattle.vx_machine_view.specs.Machine.{Machine, WholeStep, whole_steps, is_finished, machine_ids}
 use Rattle.vx_machine_view.specs.Whole.{ShowsMachine, Asks}
 

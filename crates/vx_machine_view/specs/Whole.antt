@@ -5,10 +5,10 @@ use Rattle.vx_model.specs.Ty.{Ty}
 use Rattle.vx_path.specs.Lists.{In}
 use Rattle.vx_path.specs.Path.{eof_path}
 use Rattle.vx_layout_spec.specs.LayoutTree.{renamed}
-use Rattle.vx_machine_view.specs.Images.{Careful}
+use Rattle.vx_machine_state.specs.Images.{Careful}
 use Rattle.vx_tasks.specs.Task.{Append}
 use Rattle.vx_tasks.specs.Run.{nth}
-use Rattle.vx_strategy_spec.specs.StrategyData.{StrategyData}
+use Rattle.vx_named_tasks.specs.Names.{root_outset}
 use Rattle.vx_strategy_spec.specs.Walk.{walk}
 use Rattle.vx_plan.specs.PlanData.{Setting}
 use Rattle.vx_plan.specs.SourcePlan.{start_fault}
@@ -22,11 +22,10 @@ use Rattle.vx_machine_steps.specs.Tree.{Head, Tree, Leaf, Work, read, opened}
 use Rattle.vx_machine_steps.specs.Moves.{holding, all_paths, all_over, TreeMove, tree_moves}
 use Rattle.vx_machine_steps.specs.Stands.{Stands}
 use Rattle.vx_machine_promises.specs.Write.{Write, Future, Open, Answer, unasked, came, over, depth, begin, before, heard_by}
-use Rattle.vx_machine_view.specs.State.{Tasks}
-use Rattle.vx_machine_view.specs.Acts.{layouts_in}
-use Rattle.vx_machine_view.specs.Moves.{steps}
-use Rattle.vx_machine_view.specs.Built.{is_built, Built}
-use Rattle.vx_machine_view.specs.Typed.{Typed}
+use Rattle.vx_machine_state.specs.State.{Tasks}
+use Rattle.vx_machine_state.specs.Acts.{layouts_in}
+use Rattle.vx_machine_state.specs.Moves.{steps}
+use Rattle.vx_machine_state.specs.Typed.{Typed}
 use Rattle.vx_machine_view.specs.Shows.{Shows, types_of}
 use Rattle.vx_machine_view.specs.Machine.{Phase, reading, giving, closing, finished, Machine, start, WholeStep, whole_steps, is_finished, phase_ids, machine_ids}
 
@@ -59,7 +58,7 @@ source_at g past todo = record {
   seed = source_seed (form_of g) g.mark;
   past = past;
   todo = todo;
-  local = source_local (form_of g) g.mark;
+  local = source_local (form_of g) g.mark root_outset;
   over = true;
   inbox = [];
   closed = true;
@@ -82,9 +81,9 @@ pub record ShowsMachine (g : Write) (number : List ℕ → ℕ) (m : Machine) (f
 
 -- ---- the start
 
--- where the strategy is built, and its start refuses nothing
+-- where its start refuses nothing
 abbrev pub StartShows : Type 0
-StartShows = (g : Write) (number : List ℕ → ℕ) (f : Future) → IsTrue (is_built g.way) → start_fault g.setting g.way g.type g.mark ≡ None
+StartShows = (g : Write) (number : List ℕ → ℕ) (f : Future) → start_fault g.setting g.way g.type g.mark ≡ None
     → ShowsMachine g number (start (form_of g) g.mark) f (begin g [] f)
 
 -- ---- steps
@@ -142,11 +141,7 @@ abbrev pub LayoutShows : Type 0
 LayoutShows = (g : Write) (number : List ℕ → ℕ) (f : Future) (m : Machine) (t : Tree) → Stands g.setting (depth g) t → ShowsMachine g number m f t → IsTrue (all_over t)
     → layouts_in m.root ≡ map (renamed number) (read g.setting layout_reading (depth g) 0 [] t)
 
--- ---- forms and chunks
-
--- a built strategy's form is built
-abbrev pub BuiltIsBuilt : Type 0
-BuiltIsBuilt = (w : StrategyData) (t : Ty) → IsTrue (is_built w) → Built (walk form_nodes w t)
+-- ---- chunks
 
 -- a sound chunk is of its type through and through
 abbrev pub SoundIsTyped : Type 0

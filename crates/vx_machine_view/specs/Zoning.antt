@@ -9,9 +9,9 @@ use Rattle.vx_machine_turns.specs.Acts.{Seed, Act, Shape, zones_of, passes, put_
 use Rattle.vx_machine_turns.specs.Zoned.{zoned_kept}
 use Rattle.vx_machine_turns.specs.Fuels.{Fuel, Enough}
 use Rattle.vx_machine_turns.specs.Scripts.{filled}
-use Rattle.vx_machine_view.specs.Zoned.{Zoner, Zones, zoner}
-use Rattle.vx_machine_view.specs.State.{fold_zones, Next, put, join_kids, start_table, leave_kid, Mind, by_zone, ending, passing}
-use Rattle.vx_machine_view.specs.Built.{Built}
+use Rattle.vx_machine_state.specs.Zoned.{Zoner, Zones, zoner}
+use Rattle.vx_machine_state.specs.State.{fold_zones, Next, put, join_kids, start_table, leave_kid, Mind, by_zone, ending, passing}
+use Rattle.vx_machine_view.specs.Suited.{Suited}
 
 abbrev pub zoner_of : ZonedNode → Zoner
 zoner_of n = zoner n.options n.type n.table
@@ -26,7 +26,7 @@ pub record IsZoned (d : Fuel) (q : Seed) (n : ZonedNode) : Type 0 where
   pub named : n.name ≡ q.name
   pub type_is : q.type ≡ n.type
   pub spare : q.spare ≡ (n.options.concurrency - 1) ∷ []
-  pub built : Built (zoned_form n.options n.type n.child n.table)
+  pub suited : Suited (zoned_form n.options n.type n.child n.table)
   pub enough : Enough d (zoned_form n.options n.type n.child n.table)
 
 -- it has these zones in mind, and hands these on next

@@ -1,27 +1,23 @@
-//! The step machine as the program keeps it, in plain data: what its tasks have in mind and in their queues, and what each
-//! act does to them; and its laws: it shows a state of the abstract machine, and what it does is what that can do.
+//! The whole step machine in plain data, its source and its tasks; and its laws: it shows a state of the abstract machine, and
+//! what it does is what that can do.
 //! Each function here has an empty body; its contract is a law.
 #![tactic(auto)]
 
 ghost use Rattle.vx_machine_view.specs.Steps.{StepsShow};
 ghost use Rattle.vx_machine_view.specs.Reserved.{StepsReserve, StartReserves, WholeReserves, FinishReserves};
-ghost use Rattle.vx_machine_view.specs.Images.{ImagesAreCareful};
-ghost use Rattle.vx_machine_view.specs.Tables.{TablesAreBuilt};
-ghost use Rattle.vx_machine_view.specs.Places.{StepsAreReady, OwnPlace, KidPlace, RestPlace, WholeIsReady, SourcePlace, RootPlace};
+ghost use Rattle.vx_machine_state.specs.Images.{ImagesAreCareful};
+ghost use Rattle.vx_machine_view.specs.Suited.{FormsAreSuited};
+ghost use Rattle.vx_machine_view.specs.Places.{WholeIsReady, SourcePlace, RootPlace};
 ghost use Rattle.vx_machine_view.specs.Underway.{ReachedStands, AppendIsNext, WriteMoves, WriteSteps, WriteReady, WriteEnds, WriteJoins};
-ghost use Rattle.vx_machine_view.specs.Whole.{StartShows, StepShows, ReadyShows, HeldShows, FinishShows, LayoutShows, BuiltIsBuilt, SoundIsTyped, LeastAgrees};
+ghost use Rattle.vx_machine_view.specs.Whole.{StartShows, StepShows, ReadyShows, HeldShows, FinishShows, LayoutShows, SoundIsTyped, LeastAgrees};
 
 /// What tasks can do is what the abstract ones can, and after it they show the state after it.
 pub fn tasks()
     ensures { StepsShow }
 {}
 
-/// How many are ready, and where the steps of a task, of its children and of its siblings stand among all.
+/// How many are ready, and where the steps of the source and of the root stand among all.
 pub fn places()
-    ensures ready { StepsAreReady }
-    ensures own { OwnPlace }
-    ensures kid { KidPlace }
-    ensures rest { RestPlace }
     ensures whole { WholeIsReady }
     ensures source { SourcePlace }
     ensures root { RootPlace }
@@ -60,10 +56,9 @@ pub fn writes()
     ensures joins { WriteJoins }
 {}
 
-/// What these laws ask of strategies, chunks, images and lists of paths; a table's strategies are built where it is.
+/// What these laws ask of the forms of strategies, of chunks, images and lists of paths.
 pub fn conditions()
-    ensures built { BuiltIsBuilt }
-    ensures tables { TablesAreBuilt }
+    ensures suited { FormsAreSuited }
     ensures typed { SoundIsTyped }
     ensures least { LeastAgrees }
     ensures images { ImagesAreCareful }

@@ -6,35 +6,36 @@ ghost use Rattle.vx_model.specs.ChunkData.{piece_type};
 
 use crate::given::Stream;
 use crate::rule::Rule;
-use crate::shown::{push_chunk, push_values};
+use crate::shown::push_chunk;
 use anyhow::bail;
 use serde_json::Value;
-use std::alloc::{AllocError, Global};
+use std::alloc::Global;
+use vx_case_lines::Answer;
+use vx_case_objects::push_values;
 use vx_chunk::Chunk;
 use vx_chunk_json::read_batch;
 use vx_model::DType;
-use vx_nodes::{Output, Outputs};
+use vx_nodes::Outputs;
 
 /// A line for each chunk; where a batch is refused, the last line says why.
-pub(crate) fn lines<R: Rule + Drop>(
+pub(crate) fn tell_lines<R: Rule + Drop>(
     alloc: Global,
+    answer: &mut Answer,
     mut rule: R,
     stream: Stream,
-) -> Result<String, AllocError>
+)
     requires { R.is_at rule (ty stream.dtype.now) }
 {
-    let mut out = String::new(alloc);
-    let pushed = push_lines(alloc, &mut out, &mut rule, stream);
+    let told = push_lines(alloc, answer, &mut rule, stream);
     drop(rule);
-    if let Err(error) = pushed {
-        write!(out, "{}: {error}\n", stream.name)?;
+    if let Err(error) = told {
+        answer.push_refusal(stream.name, error);
     }
-    Ok(out)
 }
 
 fn push_lines<R: Rule>(
     alloc: Global,
-    out: &mut String,
+    answer: &mut Answer,
     rule: &mut R,
     stream: Stream,
 ) -> anyhow::Result<()>
@@ -43,7 +44,7 @@ fn push_lines<R: Rule>(
     for i in 0..stream.batches.len() {
         let last = i == stream.batches.len() - 1;
         let given = given(alloc, rule, stream.dtype, &stream.batches[i], last)?;
-        push_given(alloc, out, stream.name, i, given)?;
+        push_given(alloc, answer, stream.name, i, given);
     }
     Ok(())
 }
@@ -75,42 +76,24 @@ fn given<R: Rule>(
     Ok(rule.step(alloc, dtype, chunk, last)?)
 }
 
-fn push_given(
-    alloc: Global,
-    out: &mut String,
-    name: &str,
-    batch: usize,
-    given: Outputs,
-) -> anyhow::Result<()> {
-    let pushed = push_outputs(alloc, out, name, batch, &given);
+fn push_given(alloc: Global, answer: &mut Answer, name: &str, batch: usize, given: Outputs) {
+    push_outputs(alloc, answer, name, batch, &given);
     drop(given);
-    pushed
 }
 
-fn push_outputs(
-    alloc: Global,
-    out: &mut String,
-    name: &str,
-    batch: usize,
-    given: &Outputs,
-) -> anyhow::Result<()> {
+fn push_outputs(alloc: Global, answer: &mut Answer, name: &str, batch: usize, given: &Outputs) {
     if given.items.is_empty() {
-        write!(out, "{name} {batch}: nothing\n")?;
+        write!(answer, "{name} {batch}: nothing\n");
     }
     for rank in 0..given.items.len() {
-        write!(out, "{name} {batch} {rank} ")?;
-        push_output(alloc, out, &given.items[rank])?;
+        let output = &given.items[rank];
+        write!(answer, "{name} {batch} {rank} {:?}: ", output.place);
+        push_chunk(alloc, answer, &output.chunk);
+        answer.push_str("\n");
     }
     if let Some(values) = &given.zone {
-        write!(out, "{name} {batch} record: ")?;
-        push_values(out, values)?;
-        out.push_str("\n")?;
+        write!(answer, "{name} {batch} record: ");
+        push_values(answer, values);
+        answer.push_str("\n");
     }
-    Ok(())
-}
-
-fn push_output(alloc: Global, out: &mut String, output: &Output) -> anyhow::Result<()> {
-    write!(out, "{:?}: ", output.place)?;
-    push_chunk(alloc, out, &output.chunk)?;
-    Ok(out.push_str("\n")?)
 }

@@ -33,14 +33,14 @@ mod table;
 mod tallies;
 mod zones;
 
+use crate::case::RuleCases;
 use std::io;
+use vx_case_lines::answers;
 
 fn main(rt: HostRuntime) -> anyhow::Result<()> {
     let alloc = rt.alloc();
     let cases = io::read_to_string(alloc, rt.stdin())?;
-    for line in cases.lines() {
-        let text = case::answer(alloc, line)?;
-        print!(rt; "{text}")?;
-    }
+    let text = answers::<RuleCases>(alloc, &cases)?;
+    print!(rt; "{text}")?;
     Ok(())
 }

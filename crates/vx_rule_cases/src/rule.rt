@@ -56,7 +56,7 @@ impl Rule for Repartition {
         chunk: Chunk,
         last: bool,
     ) -> Result<Outputs, NodeError> {
-        Ok(to_child(alloc, self.react(alloc, chunk, last)?)?)
+        to_child(alloc, self.react(alloc, chunk, last)?)
     }
 }
 
@@ -70,7 +70,7 @@ impl Rule for Buffered {
         chunk: Chunk,
         last: bool,
     ) -> Result<Outputs, NodeError> {
-        Ok(to_child(alloc, self.react(alloc, chunk, last)?)?)
+        to_child(alloc, self.react(alloc, chunk, last)?)
     }
 }
 
@@ -84,7 +84,7 @@ impl Rule for Collect {
         chunk: Chunk,
         last: bool,
     ) -> Result<Outputs, NodeError> {
-        Ok(to_child(alloc, self.react(alloc, chunk, last)?)?)
+        to_child(alloc, self.react(alloc, chunk, last)?)
     }
 }
 
@@ -98,7 +98,7 @@ impl Rule for ColumnSplit {
         chunk: Chunk,
         last: bool,
     ) -> Result<Outputs, NodeError> {
-        Ok(self.outputs(alloc, chunk, last)?)
+        self.outputs(alloc, chunk, last)
     }
 }
 
@@ -112,7 +112,7 @@ impl Rule for ListSplit {
         chunk: Chunk,
         last: bool,
     ) -> Result<Outputs, NodeError> {
-        Ok(self.outputs(alloc, chunk, last)?)
+        self.outputs(alloc, chunk, last)
     }
 }
 
@@ -126,7 +126,7 @@ impl Rule for RunCutter {
         chunk: Chunk,
         last: bool,
     ) -> Result<Outputs, NodeError> {
-        Ok(self.outputs(alloc, chunk, last)?)
+        self.outputs(alloc, chunk, last)
     }
 }
 
@@ -140,7 +140,7 @@ impl Rule for ZoneGuard {
         chunk: Chunk,
         last: bool,
     ) -> Result<Outputs, NodeError> {
-        Ok(self.outputs(alloc, chunk, last)?)
+        self.outputs(alloc, chunk, last)
     }
 }
 
@@ -163,7 +163,7 @@ impl Rule for DictEncoder {
                     place,
                     chunk: codes,
                 };
-                Ok(behind(alloc, self, front, last)?)
+                behind(alloc, self, front, last)
             }
             Err(error) => {
                 drop(chunk);
@@ -183,7 +183,7 @@ fn behind(
     ensures { OnOk result (last ≡ false → encoder.new ≡ encoder.old) }
 {
     if last {
-        return Ok(with_values(alloc, encoder, front)?);
+        return with_values(alloc, encoder, front);
     }
     let items = vec![in alloc; front]?;
     Ok(Outputs { items, zone: None })

@@ -6,47 +6,99 @@ ghost use Rattle.vx_model.specs.TyView.{ty};
 ghost use Rattle.vx_model.specs.ChunkData.{is_dict_type};
 
 use crate::given::Stream;
-use crate::lines::lines;
-use anyhow::{Error, bail};
+use crate::lines::tell_lines;
+use anyhow::bail;
 use std::alloc::{AllocError, Global};
-use vx_case_lines::cut;
+use vx_case_lines::{Answer, cut, number};
 use vx_dict_encoder::DictEncoder;
 use vx_nodes::{
     Buffered, Collect, ColumnSplit, DictLayoutConstraints, ListSplit, NodeError, Regroup,
     Repartition, RepartitionWriterOptions, RunCutter, dict_layout_supported,
 };
 
-pub(crate) fn told(
+/// What the rule gives; one line where there is no rule.
+pub(crate) fn tell(alloc: Global, answer: &mut Answer, word: &str, given: &str, stream: Stream) {
+    if let Err(error) = tell_rule(alloc, answer, word, given, stream) {
+        answer.push_refusal(stream.name, error);
+    }
+}
+
+fn tell_rule(
     alloc: Global,
+    answer: &mut Answer,
     word: &str,
     given: &str,
     stream: Stream,
-) -> anyhow::Result<String> {
+) -> anyhow::Result<()> {
     match word {
-        "blocks" => blocks(alloc, given, stream),
-        "held" => held(alloc, given.parse::<u64>()?, stream),
-        "joined" => joined(alloc, stream),
-        "fields" => fields(alloc, stream),
-        "lists" => lists(alloc, stream),
-        "runs" | "encode" => dictionaries(alloc, word, given, stream),
+        "fields" => Ok(tell_fields(alloc, answer, stream)?),
+        "lists" => tell_lists(alloc, answer, stream),
+        "runs" | "encode" => tell_dictionaries(alloc, answer, word, given, stream),
+        _ => tell_agreed(alloc, answer, word, given, stream),
+    }
+}
+
+/// What `Regroup` gives, where the rule by itself gives the same.
+fn tell_agreed(
+    alloc: Global,
+    answer: &mut Answer,
+    word: &str,
+    given: &str,
+    stream: Stream,
+) -> anyhow::Result<()> {
+    let mut one = Answer::new(alloc);
+    let mut other = Answer::new(alloc);
+    let told = tell_both(alloc, &mut one, &mut other, word, given, stream);
+    answer.push_agreed(one, other);
+    told
+}
+
+fn tell_both(
+    alloc: Global,
+    one: &mut Answer,
+    other: &mut Answer,
+    word: &str,
+    given: &str,
+    stream: Stream,
+) -> anyhow::Result<()> {
+    match word {
+        "blocks" => tell_blocks(alloc, one, other, given, stream),
+        "held" => {
+            let size = number(given);
+            tell_lines(alloc, one, Regroup::buffered(alloc, size), stream);
+            tell_lines(alloc, other, Buffered::new(alloc, size), stream);
+            Ok(())
+        }
+        "joined" => Ok(tell_joined(alloc, one, other, stream)?),
         _ => bail!("no word {word}"),
     }
 }
 
-/// The text, where both calls give it.
-pub(crate) fn agreed(one: String, other: String) -> anyhow::Result<String> {
-    if one.as_str() != other.as_str() {
-        return Err(Error::msg("the two calls differ"));
-    }
-    Ok(one)
+fn tell_joined(
+    alloc: Global,
+    one: &mut Answer,
+    other: &mut Answer,
+    stream: Stream,
+) -> Result<(), AllocError> {
+    let rule = Regroup::collect(alloc, stream.dtype.clone()?);
+    tell_lines(alloc, one, rule, stream);
+    let rule = Collect::new(alloc, stream.dtype.clone()?);
+    tell_lines(alloc, other, rule, stream);
+    Ok(())
 }
 
-fn blocks(alloc: Global, given: &str, stream: Stream) -> anyhow::Result<String> {
+fn tell_blocks(
+    alloc: Global,
+    one: &mut Answer,
+    other: &mut Answer,
+    given: &str,
+    stream: Stream,
+) -> anyhow::Result<()> {
     let (rows, rest) = cut(given);
     let (minimum, target) = cut(rest);
     let options = RepartitionWriterOptions {
-        block_size_minimum: minimum.parse::<u64>()?,
-        block_len_multiple: rows.parse::<u64>()?,
+        block_size_minimum: number(minimum),
+        block_len_multiple: number(rows),
         block_size_target: target.parse::<u64>().ok(),
         canonicalize: false,
     };
@@ -54,124 +106,99 @@ fn blocks(alloc: Global, given: &str, stream: Stream) -> anyhow::Result<String> 
     if len == 0 {
         bail!("no rows");
     }
-    let one = regrouped_blocks(alloc, len, options.block_size_minimum, stream)?;
-    agreed(
-        one,
-        own_blocks(alloc, len, options.block_size_minimum, stream)?,
-    )
+    let minimum = options.block_size_minimum;
+    Ok(tell_blocks_of(alloc, one, other, len, minimum, stream)?)
 }
 
-fn regrouped_blocks(
+fn tell_blocks_of(
     alloc: Global,
+    one: &mut Answer,
+    other: &mut Answer,
     len: u64,
     minimum: u64,
     stream: Stream,
-) -> Result<String, AllocError>
+) -> Result<(), AllocError>
     requires { 0 < len }
 {
     let rule = Regroup::repartition(alloc, stream.dtype.clone()?, len, minimum);
-    lines(alloc, rule, stream)
-}
-
-fn own_blocks(alloc: Global, len: u64, minimum: u64, stream: Stream) -> Result<String, AllocError>
-    requires { 0 < len }
-{
+    tell_lines(alloc, one, rule, stream);
     let rule = Repartition::new(alloc, stream.dtype.clone()?, len, minimum);
-    lines(alloc, rule, stream)
+    tell_lines(alloc, other, rule, stream);
+    Ok(())
 }
 
-fn held(alloc: Global, size: u64, stream: Stream) -> anyhow::Result<String> {
-    let one = regrouped_held(alloc, size, stream)?;
-    agreed(one, own_held(alloc, size, stream)?)
-}
-
-fn regrouped_held(alloc: Global, size: u64, stream: Stream) -> Result<String, AllocError> {
-    let rule = Regroup::buffered(alloc, size);
-    lines(alloc, rule, stream)
-}
-
-fn own_held(alloc: Global, size: u64, stream: Stream) -> Result<String, AllocError> {
-    let rule = Buffered::new(alloc, size);
-    lines(alloc, rule, stream)
-}
-
-fn joined(alloc: Global, stream: Stream) -> anyhow::Result<String> {
-    let one = regrouped_all(alloc, stream)?;
-    agreed(one, own_all(alloc, stream)?)
-}
-
-fn regrouped_all(alloc: Global, stream: Stream) -> Result<String, AllocError> {
-    let rule = Regroup::collect(alloc, stream.dtype.clone()?);
-    lines(alloc, rule, stream)
-}
-
-fn own_all(alloc: Global, stream: Stream) -> Result<String, AllocError> {
-    let rule = Collect::new(alloc, stream.dtype.clone()?);
-    lines(alloc, rule, stream)
-}
-
-fn fields(alloc: Global, stream: Stream) -> anyhow::Result<String> {
+fn tell_fields(alloc: Global, answer: &mut Answer, stream: Stream) -> Result<(), AllocError> {
     match ColumnSplit::new(alloc, stream.dtype.clone()?) {
-        Ok(rule) => Ok(lines(alloc, rule, stream)?),
-        Err(refused) => Ok(refusal(alloc, stream.name, &NodeError::from(refused))?),
+        Ok(rule) => tell_lines(alloc, answer, rule, stream),
+        Err(refused) => push_refusal(answer, stream.name, &NodeError::from(refused)),
     }
+    Ok(())
 }
 
 /// Why there is no splitter, with the name that is there twice.
-fn refusal(alloc: Global, name: &str, refused: &NodeError) -> Result<String, AllocError> {
+fn push_refusal(answer: &mut Answer, name: &str, refused: &NodeError) {
     match refused {
         NodeError::DuplicateField(field) => {
-            format!(in alloc; "{name}: {refused}, {}\n", field.as_str())
+            write!(answer, "{name}: {refused}, {}\n", field.as_str());
         }
-        _ => format!(in alloc; "{name}: {refused}\n"),
+        _ => write!(answer, "{name}: {refused}\n"),
     }
 }
 
-fn lists(alloc: Global, stream: Stream) -> anyhow::Result<String> {
+fn tell_lists(alloc: Global, answer: &mut Answer, stream: Stream) -> anyhow::Result<()> {
     if !stream.dtype.is_list() {
         bail!("no list");
     }
-    Ok(list_columns(alloc, stream)?)
+    Ok(tell_columns(alloc, answer, stream)?)
 }
 
-fn list_columns(alloc: Global, stream: Stream) -> Result<String, AllocError>
+fn tell_columns(alloc: Global, answer: &mut Answer, stream: Stream) -> Result<(), AllocError>
     requires { IsTrue (is_list (ty stream.dtype.now)) }
 {
     let rule = ListSplit::new(stream.dtype.clone()?);
-    lines(alloc, rule, stream)
+    tell_lines(alloc, answer, rule, stream);
+    Ok(())
 }
 
-fn dictionaries(alloc: Global, word: &str, given: &str, stream: Stream) -> anyhow::Result<String> {
+fn tell_dictionaries(
+    alloc: Global,
+    answer: &mut Answer,
+    word: &str,
+    given: &str,
+    stream: Stream,
+) -> anyhow::Result<()> {
     let (bytes, len) = cut(given);
     let limits = DictLayoutConstraints {
-        max_bytes: bytes.parse::<u64>()?,
+        max_bytes: number(bytes),
         max_len: len.parse::<u16>()?,
     };
     if !dict_layout_supported(stream.dtype) {
         bail!("no type of a dictionary");
     }
-    if word == "runs" {
-        return Ok(runs(alloc, limits, stream)?);
-    }
-    Ok(fronts(alloc, limits, stream)?)
+    Ok(tell_dictionary(alloc, answer, word, limits, stream)?)
 }
 
-fn runs(alloc: Global, limits: DictLayoutConstraints, stream: Stream) -> Result<String, AllocError>
-    requires { IsTrue (is_dict_type (ty stream.dtype.now)) }
-{
-    let rule = RunCutter::new(alloc, limits, stream.dtype.clone()?);
-    lines(alloc, rule, stream)
-}
-
-fn fronts(
+fn tell_dictionary(
     alloc: Global,
+    answer: &mut Answer,
+    word: &str,
     limits: DictLayoutConstraints,
     stream: Stream,
-) -> Result<String, AllocError>
+) -> Result<(), AllocError>
     requires { IsTrue (is_dict_type (ty stream.dtype.now)) }
 {
-    let rule = DictEncoder::new(alloc, limits, stream.dtype.clone()?);
-    let codes = rule.codes_ptype();
-    let given = lines(alloc, rule, stream)?;
-    format!(in alloc; "{}: codes of {codes:?}\n{given}", stream.name)
+    let dtype = stream.dtype.clone()?;
+    if word == "runs" {
+        tell_lines(alloc, answer, RunCutter::new(alloc, limits, dtype), stream);
+    } else {
+        let rule = DictEncoder::new(alloc, limits, dtype);
+        write!(
+            answer,
+            "{}: codes of {:?}\n",
+            stream.name,
+            rule.codes_ptype()
+        );
+        tell_lines(alloc, answer, rule, stream);
+    }
+    Ok(())
 }

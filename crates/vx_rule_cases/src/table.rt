@@ -1,35 +1,35 @@
 //! Tables of cells.
 
 use crate::given::Stream;
-use crate::rules::agreed;
-use crate::shown::push_cells;
 use serde_json::Value;
 use std::alloc::{AllocError, Global};
+use vx_case_lines::Answer;
+use vx_case_objects::push_cells;
 use vx_chunk_json::read_batch;
 use vx_model::{Cell, DType};
 use vx_slots::CellTable;
 
 /// The place of each cell, and the cells that are kept.
-pub(crate) fn told(alloc: Global, stream: Stream) -> anyhow::Result<String> {
-    let mut out = format!(in alloc; "{}: places", stream.name)?;
+pub(crate) fn tell(alloc: Global, answer: &mut Answer, stream: Stream) {
     let mut table = CellTable::new(alloc);
-    match push_batches(alloc, &mut out, &mut table, stream) {
-        Ok(()) => with_cells(alloc, out, table),
+    write!(answer, "{}: places", stream.name);
+    match push_batches(alloc, answer, &mut table, stream) {
+        Ok(()) => push_table(alloc, answer, table),
         Err(error) => {
             drop(table);
-            Err(error)
+            write!(answer, ": {error}\n");
         }
     }
 }
 
 fn push_batches(
     alloc: Global,
-    out: &mut String,
+    answer: &mut Answer,
     table: &mut CellTable,
     stream: Stream,
 ) -> anyhow::Result<()> {
     for batch in stream.batches {
-        push_places(out, table, cells_of(alloc, stream.dtype, batch)?)?;
+        push_places(answer, table, cells_of(alloc, stream.dtype, batch)?);
     }
     Ok(())
 }
@@ -38,20 +38,15 @@ fn cells_of(alloc: Global, dtype: &DType, batch: &Value) -> anyhow::Result<Vec<C
     Ok(read_batch(alloc, dtype, batch)?.into_cells(alloc)?)
 }
 
-fn push_places(
-    out: &mut String,
-    table: &mut CellTable,
-    cells: Vec<Cell>,
-) -> Result<(), AllocError> {
+fn push_places(answer: &mut Answer, table: &mut CellTable, cells: Vec<Cell>) {
     for cell in cells {
-        push_place(out, table, cell)?;
+        push_place(answer, place_of(table, cell));
     }
-    Ok(())
 }
 
-fn push_place(out: &mut String, table: &mut CellTable, cell: Cell) -> Result<(), AllocError> {
-    let place = place_of(table, cell)?;
-    write!(out, " {place}")
+fn push_place(answer: &mut Answer, place: Result<u64, AllocError>) {
+    answer.push_str(" ");
+    answer.push_given(place);
 }
 
 /// The place of the cell, which is pushed where it is new.
@@ -71,24 +66,18 @@ fn push_new(table: &mut CellTable, cell: Cell) -> Result<u64, AllocError> {
     Ok(place)
 }
 
-fn with_cells(alloc: Global, mut out: String, table: CellTable) -> anyhow::Result<String> {
-    let count = table.len();
-    let cells = cells_text(alloc, table)?;
-    write!(out, ", {count} cells [{cells}]\n")?;
-    Ok(out)
-}
-
 /// The cells, where both calls give them.
-fn cells_text(alloc: Global, table: CellTable) -> anyhow::Result<String> {
-    let kept = text_of(alloc, table.as_slice());
-    let cells = table.into_cells();
-    let own = text_of(alloc, &cells);
-    drop(cells);
-    agreed(kept?, own?)
+fn push_table(alloc: Global, answer: &mut Answer, table: CellTable) {
+    write!(answer, ", {} cells [", table.len());
+    let mut kept = Answer::new(alloc);
+    push_cells(&mut kept, table.as_slice());
+    let mut own = Answer::new(alloc);
+    push_own(&mut own, table.into_cells());
+    answer.push_agreed(kept, own);
+    answer.push_str("]\n");
 }
 
-fn text_of(alloc: Global, cells: &[Cell]) -> Result<String, AllocError> {
-    let mut text = String::new(alloc);
-    push_cells(&mut text, cells)?;
-    Ok(text)
+fn push_own(answer: &mut Answer, cells: Vec<Cell>) {
+    push_cells(answer, &cells);
+    drop(cells);
 }

@@ -1,64 +1,74 @@
 //! Counts with their sum.
 
-use anyhow::bail;
 use std::alloc::Global;
-use vx_case_lines::boxed;
+use vx_case_lines::{Answer, number};
 use vx_tally::Tally;
 
 /// A line for each call that asks.
-pub(crate) fn told(alloc: Global, name: &str, calls: &str) -> anyhow::Result<String> {
-    let mut out = String::new(alloc);
-    let mut tally = boxed(alloc, Tally::new(alloc))?;
+pub(crate) fn tell(alloc: Global, answer: &mut Answer, name: &str, calls: &str) {
+    let mut tally = Tally::new(alloc);
     for call in calls.split_whitespace() {
-        let answer = answer_of(alloc, &mut tally, call)?;
-        if !answer.is_empty() {
-            write!(out, "{name} {call}: {answer}\n")?;
-        }
+        tell_call(alloc, answer, name, &mut tally, call);
     }
-    Ok(out)
+    drop(tally);
 }
 
-/// The answer of the call; nothing where it changes the counts.
-fn answer_of(alloc: Global, tally: &mut Tally, call: &str) -> anyhow::Result<String> {
+fn tell_call(alloc: Global, answer: &mut Answer, name: &str, tally: &mut Tally, call: &str) {
     let (word, numbers) = call.split_once(':').unwrap_or((call, ""));
     match word {
-        "push" => push(alloc, tally, numbers.parse::<u64>()?),
-        "set" => set(alloc, tally, numbers),
-        "get" => get(alloc, tally, numbers.parse::<usize>()?),
-        "find" => find(alloc, tally, numbers.parse::<u64>()?),
-        "sum" => Ok(format!(in alloc; "{}", tally.sum())?),
-        "len" => Ok(format!(in alloc; "{}, none {}", tally.len(), tally.is_empty())?),
-        _ => bail!("no call {word}"),
+        "push" => push(alloc, answer, tally, number(numbers)),
+        "set" => set(answer, tally, numbers),
+        _ => {
+            write!(answer, "{name} {call}: ");
+            tell_asked(answer, tally, word, numbers);
+            answer.push_str("\n");
+        }
     }
 }
 
-fn push(alloc: Global, tally: &mut Tally, count: u64) -> anyhow::Result<String> {
-    tally.push(alloc, count)?;
-    Ok(String::new(alloc))
+fn push(alloc: Global, answer: &mut Answer, tally: &mut Tally, count: u64) {
+    if tally.push(alloc, count).is_err() {
+        answer.push_str("out of memory\n");
+    }
 }
 
-fn set(alloc: Global, tally: &mut Tally, numbers: &str) -> anyhow::Result<String> {
+fn set(answer: &mut Answer, tally: &mut Tally, numbers: &str) {
     let (place, count) = numbers.split_once(':').unwrap_or((numbers, ""));
-    let place = place.parse::<usize>()?;
-    let count = count.parse::<u64>()?;
-    if place >= tally.len() {
-        bail!("no count at {place}");
+    let place = place_of(place);
+    if place < tally.len() {
+        tally.set(place, number(count));
+    } else {
+        write!(answer, "no count at {place}\n");
     }
-    tally.set(place, count);
-    Ok(String::new(alloc))
 }
 
-fn get(alloc: Global, tally: &Tally, place: usize) -> anyhow::Result<String> {
-    if place >= tally.len() {
-        bail!("no count at {place}");
-    }
-    Ok(format!(in alloc; "{}", tally.get(place))?)
+fn place_of(text: &str) -> usize {
+    text.parse::<usize>().unwrap_or(0)
 }
 
-fn find(alloc: Global, tally: &Tally, k: u64) -> anyhow::Result<String> {
-    if k >= tally.sum() {
-        bail!("{k} falls in no count");
+fn tell_asked(answer: &mut Answer, tally: &Tally, word: &str, numbers: &str) {
+    match word {
+        "get" => tell_count(answer, tally, place_of(numbers)),
+        "find" => tell_place(answer, tally, number(numbers)),
+        "sum" => answer.push(tally.sum()),
+        "len" => write!(answer, "{}, none {}", tally.len(), tally.is_empty()),
+        _ => write!(answer, "no call {word}"),
     }
-    let (place, behind) = tally.find(k);
-    Ok(format!(in alloc; "count {place}, {behind} behind its beginning")?)
+}
+
+fn tell_count(answer: &mut Answer, tally: &Tally, place: usize) {
+    if place < tally.len() {
+        answer.push(tally.get(place));
+    } else {
+        write!(answer, "no count at {place}");
+    }
+}
+
+fn tell_place(answer: &mut Answer, tally: &Tally, k: u64) {
+    if k < tally.sum() {
+        let (place, behind) = tally.find(k);
+        write!(answer, "count {place}, {behind} behind its beginning");
+    } else {
+        write!(answer, "{k} falls in no count");
+    }
 }

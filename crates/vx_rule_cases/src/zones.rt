@@ -9,63 +9,59 @@ ghost use Rattle.vx_zone_record_spec.specs.Held.{record_fits};
 ghost use Rattle.vx_zone_table.specs.BuilderView.{gathered};
 
 use crate::given::Stream;
-use crate::lines::{lines, of_type};
-use crate::shown::{push_chunk, push_values};
+use crate::lines::{of_type, tell_lines};
+use crate::shown::push_chunk;
 use anyhow::{Context, Error};
 use serde_json::Value as Json;
 use std::alloc::{AllocError, Global};
 use std::num::NonZeroU32;
-use vx_aggregate::{AggregateFn, default_zoned_aggregate_fns};
+use vx_aggregate::AggregateFn;
+use vx_case_lines::Answer;
+use vx_case_objects::{Case, aggregates_in, push_values};
 use vx_chunk::Chunk;
 use vx_chunk_json::read_batch;
 use vx_model::{DType, Value};
 use vx_nodes::{NodeError, ZoneGuard};
-use vx_strategy_json::read_aggregate;
 use vx_zone_table::ZoneTableBuilder;
 
-/// A line a record, and the table; where a batch is refused, the last line says why.
-pub(crate) fn told(
-    alloc: Global,
-    rows: &str,
-    object: &Json,
-    stream: Stream,
-) -> anyhow::Result<String> {
-    let rows = rows_in(rows)?;
-    let aggregates = aggregates(alloc, object, stream.dtype)?;
-    let mut out = String::new(alloc);
-    if let Err(error) = push_zones(alloc, &mut out, rows, &aggregates, stream) {
-        write!(out, "{}: {error}\n", stream.name)?;
+/// Of the words `zones` and `guard`; where a batch is refused, the last line says why.
+pub(crate) fn tell(alloc: Global, answer: &mut Answer, case: Case, stream: Stream) {
+    match aggregates_in(alloc, case.object, case.dtype) {
+        Ok(aggregates) => {
+            tell_by(alloc, answer, case, &aggregates, stream);
+            drop(aggregates);
+        }
+        Err(error) => answer.push_refusal(case.name, error),
     }
-    Ok(out)
 }
 
-/// A line a chunk, and one a record, as the guard gives them as a rule.
-pub(crate) fn guarded(
+fn tell_by(
     alloc: Global,
-    rows: &str,
-    object: &Json,
+    answer: &mut Answer,
+    case: Case,
+    aggregates: &[AggregateFn],
     stream: Stream,
-) -> anyhow::Result<String> {
-    let rows = rows_in(rows)?;
-    let aggregates = aggregates(alloc, object, stream.dtype)?;
-    let guard = guard_of(alloc, rows, &aggregates, stream.dtype)?;
-    Ok(lines(alloc, guard, stream)?)
-}
-
-fn rows_in(text: &str) -> anyhow::Result<NonZeroU32> {
-    NonZeroU32::new(text.parse::<u32>()?).context("no rows")
-}
-
-/// Those that the object lists; where it has no list, those that are kept of the type by themselves.
-fn aggregates(alloc: Global, object: &Json, dtype: &DType) -> anyhow::Result<Vec<AggregateFn>> {
-    let Some(listed) = object.get("aggregates") else {
-        return Ok(default_zoned_aggregate_fns(alloc, dtype)?);
-    };
-    let mut aggregates = Vec::new(alloc);
-    for item in listed.as_array().context("aggregates are no list")? {
-        aggregates.push(read_aggregate(item)?)?;
+) {
+    if let Err(error) = tell_zones(alloc, answer, case, aggregates, stream) {
+        answer.push_refusal(case.name, error);
     }
-    Ok(aggregates)
+}
+
+/// A line a chunk and one a record, as the guard gives them as a rule; or a line a record, and the table.
+fn tell_zones(
+    alloc: Global,
+    answer: &mut Answer,
+    case: Case,
+    aggregates: &[AggregateFn],
+    stream: Stream,
+) -> anyhow::Result<()> {
+    let rows = NonZeroU32::new(case.given.parse::<u32>()?).context("no rows")?;
+    let guard = guard_of(alloc, rows, aggregates, stream.dtype)?;
+    if case.word == "guard" {
+        tell_lines(alloc, answer, guard, stream);
+        return Ok(());
+    }
+    tell_guarded(alloc, answer, guard, aggregates, stream)
 }
 
 fn guard_of(
@@ -81,20 +77,9 @@ fn guard_of(
     Ok(ZoneGuard::new(alloc, rows, listed, dtype.clone()?)?)
 }
 
-fn push_zones(
+fn tell_guarded(
     alloc: Global,
-    out: &mut String,
-    rows: NonZeroU32,
-    aggregates: &[AggregateFn],
-    stream: Stream,
-) -> anyhow::Result<()> {
-    let guard = guard_of(alloc, rows, aggregates, stream.dtype)?;
-    push_guarded(alloc, out, guard, aggregates, stream)
-}
-
-fn push_guarded(
-    alloc: Global,
-    out: &mut String,
+    answer: &mut Answer,
     guard: ZoneGuard,
     aggregates: &[AggregateFn],
     stream: Stream,
@@ -103,7 +88,7 @@ fn push_guarded(
     requires columns { guard.columns ≡ held_aggregates (map aggregate_of aggregates.now) (ty stream.dtype.now) }
 {
     match ZoneTableBuilder::new(alloc, stream.dtype, aggregates) {
-        Ok(builder) => push_all(alloc, out, guard, builder, stream),
+        Ok(builder) => tell_all(alloc, answer, guard, builder, stream),
         Err(error) => {
             drop(guard);
             Err(Error::from(error))
@@ -111,9 +96,9 @@ fn push_guarded(
     }
 }
 
-fn push_all(
+fn tell_all(
     alloc: Global,
-    out: &mut String,
+    answer: &mut Answer,
     mut guard: ZoneGuard,
     mut builder: ZoneTableBuilder,
     stream: Stream,
@@ -121,10 +106,13 @@ fn push_all(
     requires typed { guard.typed ≡ ty stream.dtype.now }
     requires columns { (gathered builder).columns ≡ guard.columns }
 {
-    let pushed = push_records(alloc, out, &mut guard, &mut builder, stream);
+    let pushed = push_records(alloc, answer, &mut guard, &mut builder, stream);
     drop(guard);
     match pushed {
-        Ok(()) => push_table(alloc, out, stream.name, builder),
+        Ok(()) => {
+            tell_table(alloc, answer, stream.name, builder.finish(alloc));
+            Ok(())
+        }
         Err(error) => {
             drop(builder);
             Err(error)
@@ -135,7 +123,7 @@ fn push_all(
 /// A line of each record, which the builder takes.
 fn push_records(
     alloc: Global,
-    out: &mut String,
+    answer: &mut Answer,
     guard: &mut ZoneGuard,
     builder: &mut ZoneTableBuilder,
     stream: Stream,
@@ -145,7 +133,7 @@ fn push_records(
 {
     for i in 0..stream.batches.len() {
         let record = record_of(alloc, guard, stream.dtype, &stream.batches[i])?;
-        push_zone(out, builder, stream.name, i, record)?;
+        push_zone(answer, builder, stream.name, i, record)?;
     }
     Ok(())
 }
@@ -176,7 +164,7 @@ fn record_of(
 }
 
 fn push_zone(
-    out: &mut String,
+    answer: &mut Answer,
     builder: &mut ZoneTableBuilder,
     name: &str,
     batch: usize,
@@ -186,13 +174,16 @@ fn push_zone(
     ensures { OnOk result ((gathered builder.new).columns ≡ (gathered builder.old).columns) }
 {
     match zone {
-        Some(values) => push_record(out, builder, name, batch, values),
-        None => write!(out, "{name} {batch}: no record\n"),
+        Some(values) => push_record(answer, builder, name, batch, values),
+        None => {
+            write!(answer, "{name} {batch}: no record\n");
+            Ok(())
+        }
     }
 }
 
 fn push_record(
-    out: &mut String,
+    answer: &mut Answer,
     builder: &mut ZoneTableBuilder,
     name: &str,
     batch: usize,
@@ -201,62 +192,41 @@ fn push_record(
     requires { IsTrue (record_fits (gathered builder.old).columns (map val values.items)) }
     ensures { OnOk result ((gathered builder.new).columns ≡ (gathered builder.old).columns) }
 {
-    match push_text(out, name, batch, &values) {
-        Ok(()) => builder.push(values),
-        Err(error) => {
-            drop(values);
-            Err(error)
+    write!(answer, "{name} {batch}: ");
+    push_values(answer, &values);
+    answer.push_str("\n");
+    builder.push(values)
+}
+
+fn tell_table(
+    alloc: Global,
+    answer: &mut Answer,
+    name: &str,
+    table: Result<Option<(Chunk, Vec<AggregateFn>)>, AllocError>,
+) {
+    match table {
+        Ok(Some((table, aggregates))) => {
+            push_columns(alloc, answer, name, &table, &aggregates);
+            drop(aggregates);
+            drop(table);
         }
+        Ok(None) => write!(answer, "{name}: no table\n"),
+        Err(error) => answer.push_refusal(name, error),
     }
-}
-
-fn push_text(
-    out: &mut String,
-    name: &str,
-    batch: usize,
-    values: &[Value],
-) -> Result<(), AllocError> {
-    write!(out, "{name} {batch}: ")?;
-    push_values(out, values)?;
-    out.push_str("\n")
-}
-
-fn push_table(
-    alloc: Global,
-    out: &mut String,
-    name: &str,
-    builder: ZoneTableBuilder,
-) -> anyhow::Result<()> {
-    match builder.finish(alloc)? {
-        Some((table, aggregates)) => push_finished(alloc, out, name, table, &aggregates),
-        None => Ok(write!(out, "{name}: no table\n")?),
-    }
-}
-
-fn push_finished(
-    alloc: Global,
-    out: &mut String,
-    name: &str,
-    table: Chunk,
-    aggregates: &[AggregateFn],
-) -> anyhow::Result<()> {
-    let pushed = push_columns(alloc, out, name, &table, aggregates);
-    drop(table);
-    pushed
 }
 
 /// A line of the table, and the aggregates of its columns.
 fn push_columns(
     alloc: Global,
-    out: &mut String,
+    answer: &mut Answer,
     name: &str,
     table: &Chunk,
     aggregates: &[AggregateFn],
-) -> anyhow::Result<()> {
-    write!(out, "{name}: ")?;
-    push_chunk(alloc, out, table)?;
+) {
+    write!(answer, "{name}: ");
+    push_chunk(alloc, answer, table);
     for aggregate in aggregates {
-        write!(out, " {aggregate}")?;
+        write!(answer, " {aggregate}");
     }
-    Ok(out.push_str("\n")?)
+    answer.push_str("\n");
 }

@@ -11,7 +11,7 @@ use Rattle.vx_plan.specs.Valid.{Valid}
 use Rattle.vx_fault.specs.Fails.{fails_at}
 use Rattle.vx_setting.specs.Setting.{real}
 use Rattle.vx_compressor_spec.specs.TableImage.{table_image}
-use Rattle.vx_machine_view.specs.Images.{images_of}
+use Rattle.vx_machine_state.specs.Images.{images_of}
 use Rattle.vx_write.specs.Calls.{reads_in, appends_in, calls_in, misfits}
 use Rattle.vx_write.specs.Readable.{IsReadable}
 use Rattle.vx_write.specs.Traced.{IsTraced}

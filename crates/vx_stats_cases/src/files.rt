@@ -1,45 +1,29 @@
 //! The statistics of a file.
 
-use crate::given::{numbers_in, stats_in};
-use crate::shown::push_value;
-use anyhow::Context;
-use serde_json::Value as Json;
+use crate::given::{calls_of, fails_in};
 use std::alloc::{AllocError, Global};
 use vx_aggregate::Stat;
-use vx_case_lines::cut;
+use vx_case_lines::{Answer, cut, number};
+use vx_case_objects::{Case, list_in, push_value, stats_of};
 use vx_chunk::Chunk;
 use vx_chunk_json::read_batches;
 use vx_file_stats::{FileStatsAccumulator, Precision, StatsSet, StatsSource, accumulate_stats};
-use vx_model::DType;
+use vx_model::{DType, Value};
 use vx_sink::{BatchSource, ListSource, SourceError};
 
 /// A line a call of the source, and a line a set.
-pub(crate) fn told(
-    alloc: Global,
-    name: &str,
-    given: &str,
-    object: &Json,
-    dtype: &DType,
-) -> anyhow::Result<String> {
-    let (limit, names) = cut(given);
-    let limit = limit.parse::<u64>()?;
-    let stats = stats_in(alloc, names)?;
-    let source = source_in(alloc, object, dtype)?;
-    let mut out = String::new(alloc);
-    match accumulate_stats(alloc, source, stats, limit) {
-        Ok(source) => push_file(&mut out, name, source, calls_of(object))?,
-        Err((error, _source)) => write!(out, "{name}: {error}\n")?,
+pub(crate) fn tell(alloc: Global, answer: &mut Answer, case: Case) {
+    match source_in(alloc, case) {
+        Ok(source) => tell_source(alloc, answer, case, source),
+        Err(error) => answer.push_refusal(case.name, error),
     }
-    Ok(out)
 }
 
-fn source_in(alloc: Global, object: &Json, dtype: &DType) -> anyhow::Result<ListSource> {
-    let fails = numbers_in(alloc, object, "fails")?;
-    let values = object.get("batches").context("no batches")?;
-    let values = values.as_array().context("batches are no list")?;
-    let batches = read_batches(alloc, dtype, values)?;
-    match dtype.clone() {
-        Ok(dtype) => Ok(ListSource::new(dtype, batches, fails)),
+fn source_in(alloc: Global, case: Case) -> anyhow::Result<ListSource> {
+    let values = list_in(case.object, "batches")?;
+    let batches = read_batches(alloc, case.dtype, values)?;
+    match parts_in(alloc, case) {
+        Ok((dtype, fails)) => Ok(ListSource::new(dtype, batches, fails)),
         Err(error) => {
             drop(batches);
             Err(error.into())
@@ -47,114 +31,114 @@ fn source_in(alloc: Global, object: &Json, dtype: &DType) -> anyhow::Result<List
     }
 }
 
-/// So many calls give all batches: one a batch, one a call that fails, and one for the end.
-fn calls_of(object: &Json) -> usize {
-    length_of(object, "batches")
-        .saturating_add(length_of(object, "fails"))
-        .saturating_add(1)
+fn parts_in(alloc: Global, case: Case) -> Result<(DType, Vec<u64>), AllocError> {
+    let fails = fails_in(alloc, case.object)?;
+    Ok((case.dtype.clone()?, fails))
 }
 
-fn length_of(object: &Json, key: &str) -> usize {
-    match object.get(key) {
-        Some(listed) => listed.as_array().map_or(0, |list| list.len()),
-        None => 0,
+fn tell_source(alloc: Global, answer: &mut Answer, case: Case, source: ListSource) {
+    let (limit, names) = cut(case.given);
+    match stats_of(alloc, names) {
+        Ok(stats) => tell_file(alloc, answer, case, source, stats, number(limit)),
+        Err(error) => {
+            drop(source);
+            answer.push_refusal(case.name, error);
+        }
     }
 }
 
-fn push_file(
-    out: &mut String,
+fn tell_file(
+    alloc: Global,
+    answer: &mut Answer,
+    case: Case,
+    source: ListSource,
+    stats: Vec<Stat>,
+    limit: u64,
+) {
+    match accumulate_stats(alloc, source, stats, limit) {
+        Ok(source) => tell_wrapped(answer, case.name, source, calls_of(case.object)),
+        Err((error, source)) => {
+            drop(source);
+            answer.push_refusal(case.name, error);
+        }
+    }
+}
+
+fn tell_wrapped(
+    answer: &mut Answer,
     name: &str,
     mut source: StatsSource<ListSource>,
     calls: usize,
-) -> Result<(), AllocError> {
-    let pushed = push_calls(out, name, &mut source, calls);
-    let (gathered, _source) = source.finish();
-    match pushed {
-        Ok(()) => push_sets(out, name, gathered),
-        Err(error) => {
-            drop(gathered);
-            Err(error)
-        }
-    }
+) {
+    tell_calls(answer, name, &mut source, calls);
+    let (gathered, source) = source.finish();
+    drop(source);
+    tell_gathered(answer, name, gathered);
 }
 
-fn push_calls<B: BatchSource>(
-    out: &mut String,
-    name: &str,
-    source: &mut B,
-    calls: usize,
-) -> Result<(), AllocError> {
+fn tell_calls<B: BatchSource>(answer: &mut Answer, name: &str, source: &mut B, calls: usize) {
     for i in 0..calls {
-        let answer = source.next();
-        push_answer(out, name, i, answer)?;
+        let batch = source.next();
+        tell_batch(answer, name, i, batch);
     }
-    Ok(())
 }
 
-fn push_answer(
-    out: &mut String,
+fn tell_batch(
+    answer: &mut Answer,
     name: &str,
     call: usize,
-    answer: Result<Option<Chunk>, SourceError>,
-) -> Result<(), AllocError> {
-    match answer {
+    batch: Result<Option<Chunk>, SourceError>,
+) {
+    match batch {
         Ok(Some(batch)) => {
-            let rows = batch.len();
+            write!(answer, "{name} {call}: {} rows\n", batch.len());
             drop(batch);
-            write!(out, "{name} {call}: {rows} rows\n")
         }
-        Ok(None) => Ok(()),
-        Err(error) => write!(out, "{name} {call}: {error}\n"),
+        Ok(None) => {}
+        Err(error) => write!(answer, "{name} {call}: {error}\n"),
     }
 }
 
-fn push_sets(
-    out: &mut String,
-    name: &str,
-    gathered: FileStatsAccumulator,
-) -> Result<(), AllocError> {
-    let sets = gathered.stats_sets()?;
-    let pushed = push_each(out, name, &sets);
-    drop(sets);
-    pushed
+fn tell_gathered(answer: &mut Answer, name: &str, gathered: FileStatsAccumulator) {
+    match gathered.stats_sets() {
+        Ok(sets) => {
+            tell_sets(answer, name, &sets);
+            drop(sets);
+        }
+        Err(error) => answer.push_refusal(name, error),
+    }
 }
 
-fn push_each(out: &mut String, name: &str, sets: &[StatsSet]) -> Result<(), AllocError> {
+fn tell_sets(answer: &mut Answer, name: &str, sets: &[StatsSet]) {
     for i in 0..sets.len() {
-        write!(out, "{name} set {i}:")?;
-        push_set(out, &sets[i])?;
-        out.push_str("\n")?;
+        write!(answer, "{name} set {i}:");
+        push_set(answer, &sets[i]);
+        answer.push_str("\n");
     }
-    Ok(())
 }
 
 /// What is known of the statistics, those that are absent left out.
-fn push_set(out: &mut String, set: &StatsSet) -> Result<(), AllocError> {
-    let mut some = false;
+fn push_set(answer: &mut Answer, set: &StatsSet) {
+    let mut comma = "";
     for stat in Stat::ALL {
         match set.get(stat) {
             Precision::Exact(value) => {
-                push_name(out, some, stat, "exact")?;
-                push_value(out, value)?;
-                some = true;
+                push_stat(answer, comma, stat, "exact", value);
+                comma = ",";
             }
             Precision::Inexact(value) => {
-                push_name(out, some, stat, "inexact")?;
-                push_value(out, value)?;
-                some = true;
+                push_stat(answer, comma, stat, "inexact", value);
+                comma = ",";
             }
             Precision::Absent => {}
         }
     }
-    if !some {
-        out.push_str(" nothing")?;
+    if comma.is_empty() {
+        answer.push_str(" nothing");
     }
-    Ok(())
 }
 
-fn push_name(out: &mut String, behind: bool, stat: Stat, how: &str) -> Result<(), AllocError> {
-    if behind {
-        out.push_str(",")?;
-    }
-    write!(out, " {} {how} ", stat.name())
+fn push_stat(answer: &mut Answer, comma: &str, stat: Stat, how: &str, value: &Value) {
+    write!(answer, "{comma} {} {how} ", stat.name());
+    push_value(answer, value);
 }

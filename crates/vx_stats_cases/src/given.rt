@@ -1,43 +1,33 @@
 //! What a case gives.
 
-use anyhow::{Context, bail};
 use serde_json::Value;
-use std::alloc::Global;
-use vx_aggregate::Stat;
-use vx_chunk_json::read_type;
-use vx_model::DType;
+use std::alloc::{AllocError, Global};
 
-pub(crate) fn dtype_in(alloc: Global, given: &Value) -> anyhow::Result<DType> {
-    let value = given.get("schema").context("no schema")?;
-    Ok(read_type(alloc, value)?)
-}
-
-/// The statistics of these names.
-pub(crate) fn stats_in(alloc: Global, names: &str) -> anyhow::Result<Vec<Stat>> {
-    let mut stats = Vec::new(alloc);
-    for name in names.split_whitespace() {
-        stats.push(stat_of(name)?)?;
-    }
-    Ok(stats)
-}
-
-fn stat_of(name: &str) -> anyhow::Result<Stat> {
-    for stat in Stat::ALL {
-        if stat.name() == name {
-            return Ok(stat);
+/// The numbers of the source's calls that fail; none where the object has no list of them.
+pub(crate) fn fails_in(alloc: Global, given: &Value) -> Result<Vec<u64>, AllocError> {
+    let mut numbers = Vec::new(alloc);
+    if let Some(listed) = listed_in(given, "fails") {
+        for item in listed {
+            numbers.push(item.as_u64().unwrap_or(0))?;
         }
     }
-    bail!("no statistic {name}")
+    Ok(numbers)
 }
 
-/// The numbers that the object lists under the key; none where it has no list.
-pub(crate) fn numbers_in(alloc: Global, given: &Value, key: &str) -> anyhow::Result<Vec<u64>> {
-    let mut numbers = Vec::new(alloc);
-    let Some(listed) = given.get(key) else {
-        return Ok(numbers);
-    };
-    for item in listed.as_array().context("no list")? {
-        numbers.push(item.as_u64().context("no number")?)?;
+fn listed_in<'a>(given: &'a Value, key: &str) -> Option<&'a Vec<Value>> {
+    given.get(key)?.as_array()
+}
+
+/// So many calls give all batches: one a batch, one a call that fails, and one for the end.
+pub(crate) fn calls_of(given: &Value) -> usize {
+    length_of(given, "batches")
+        .saturating_add(length_of(given, "fails"))
+        .saturating_add(1)
+}
+
+fn length_of(given: &Value, key: &str) -> usize {
+    match listed_in(given, key) {
+        Some(listed) => listed.len(),
+        None => 0,
     }
-    Ok(numbers)
 }

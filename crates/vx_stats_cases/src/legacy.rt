@@ -5,83 +5,94 @@ ghost use Rattle.vx_model.specs.TyView.{ty};
 ghost use Rattle.vx_model.specs.ChunkData.{piece_type};
 ghost use Rattle.vx_aggregate.specs.Tables.{legacy_table};
 
-use crate::given::stats_in;
-use crate::shown::push_value;
 use anyhow::Context;
-use serde_json::Value as Json;
-use std::alloc::{AllocError, Global};
+use std::alloc::Global;
 use vx_aggregate::{AggregateFn, Stat, legacy_stats_table_dtype};
-use vx_chunk::Chunk;
+use vx_case_lines::Answer;
+use vx_case_objects::{Case, push_values, stats_of};
+use vx_chunk::{Chunk, ChunkError};
 use vx_chunk_json::read_chunk;
 use vx_file_stats::legacy_stats_to_aggregates;
-use vx_model::{DType, Value};
+use vx_model::Value;
 
 /// The aggregates, and a line a zone.
-pub(crate) fn told(
-    alloc: Global,
-    name: &str,
-    names: &str,
-    object: &Json,
-    dtype: &DType,
-) -> anyhow::Result<String> {
-    let stats = stats_in(alloc, names)?;
-    let table = table_in(alloc, object, dtype, &stats)?;
-    let read = legacy_stats_to_aggregates(alloc, dtype, &table, &stats);
-    drop(table);
-    let (aggregates, zones) = read?;
-    told_of(alloc, name, &aggregates, zones)
+pub(crate) fn tell(alloc: Global, answer: &mut Answer, case: Case) {
+    match stats_of(alloc, case.given) {
+        Ok(stats) => {
+            tell_of(alloc, answer, case, &stats);
+            drop(stats);
+        }
+        Err(error) => answer.push_refusal(case.name, error),
+    }
 }
 
-fn table_in(alloc: Global, object: &Json, dtype: &DType, stats: &[Stat]) -> anyhow::Result<Chunk>
-    ensures { IfOk result (λ c. piece_type c ≡ legacy_table (ty dtype.now) stats.now) }
+fn tell_of(alloc: Global, answer: &mut Answer, case: Case, stats: &[Stat]) {
+    match table_in(alloc, case, stats) {
+        Ok(table) => {
+            let read = legacy_stats_to_aggregates(alloc, case.dtype, &table, stats);
+            drop(table);
+            tell_read(alloc, answer, case.name, read);
+        }
+        Err(error) => answer.push_refusal(case.name, error),
+    }
+}
+
+fn table_in(alloc: Global, case: Case, stats: &[Stat]) -> anyhow::Result<Chunk>
+    ensures { IfOk result (λ c. piece_type c ≡ legacy_table (ty case.dtype.now) stats.now) }
 {
-    let value = object.get("table").context("no table")?;
-    let table = legacy_stats_table_dtype(alloc, dtype, stats)?;
-    Ok(read_chunk(alloc, &table, value)?)
+    let value = case.object.get("table").context("no table")?;
+    let dtype = legacy_stats_table_dtype(alloc, case.dtype, stats)?;
+    let table = read_chunk(alloc, &dtype, value);
+    drop(dtype);
+    Ok(table?)
 }
 
-fn told_of(
+fn tell_read(
     alloc: Global,
+    answer: &mut Answer,
     name: &str,
-    aggregates: &[AggregateFn],
-    zones: Chunk,
-) -> anyhow::Result<String> {
-    let rows = zones.into_rows(alloc)?;
-    let told = lines(alloc, name, aggregates, &rows);
-    drop(rows);
-    Ok(told?)
+    read: Result<(Vec<AggregateFn>, Chunk), ChunkError>,
+) {
+    match read {
+        Ok((aggregates, zones)) => {
+            tell_aggregates(answer, name, &aggregates);
+            drop(aggregates);
+            tell_zones(alloc, answer, name, zones);
+        }
+        Err(error) => answer.push_refusal(name, error),
+    }
 }
 
-fn lines(
-    alloc: Global,
-    name: &str,
-    aggregates: &[AggregateFn],
-    rows: &[Value],
-) -> Result<String, AllocError> {
-    let mut out = String::new(alloc);
-    write!(out, "{name}:")?;
+fn tell_aggregates(answer: &mut Answer, name: &str, aggregates: &[AggregateFn]) {
+    write!(answer, "{name}:");
     for aggregate in aggregates {
-        write!(out, " {aggregate}")?;
+        write!(answer, " {aggregate}");
     }
-    out.push_str("\n")?;
-    for i in 0..rows.len() {
-        write!(out, "{name} {i}:")?;
-        push_zone(&mut out, &rows[i])?;
-        out.push_str("\n")?;
-    }
-    Ok(out)
+    answer.push_str("\n");
 }
 
-fn push_zone(out: &mut String, zone: &Value) -> Result<(), AllocError> {
-    let Value::Struct(values) = zone else {
-        return out.push_str(" no zone");
-    };
-    if values.is_empty() {
-        return out.push_str(" nothing");
+fn tell_zones(alloc: Global, answer: &mut Answer, name: &str, zones: Chunk) {
+    match zones.into_rows(alloc) {
+        Ok(rows) => {
+            tell_rows(answer, name, &rows);
+            drop(rows);
+        }
+        Err(error) => answer.push_refusal(name, error),
     }
-    for i in 0..values.len() {
-        out.push_str(if i > 0 { ", " } else { " " })?;
-        push_value(out, &values[i])?;
+}
+
+fn tell_rows(answer: &mut Answer, name: &str, rows: &[Value]) {
+    for i in 0..rows.len() {
+        write!(answer, "{name} {i}: ");
+        push_zone(answer, &rows[i]);
+        answer.push_str("\n");
     }
-    Ok(())
+}
+
+fn push_zone(answer: &mut Answer, zone: &Value) {
+    match zone {
+        Value::Struct(values) if values.is_empty() => answer.push_str("nothing"),
+        Value::Struct(values) => push_values(answer, values),
+        _ => answer.push_str("no zone"),
+    }
 }

@@ -1,28 +1,41 @@
-//! Answers cases on standard input: the statistics that a file keeps, and tables of statistics of the old form.
+//! Answers cases on standard input: which zones predicates skip, the statistics that a file keeps, and tables of statistics
+//! of the old form.
 //!
-//! A case is a line `NAME WORD GIVEN.. = OBJECT`. The object says a type (`schema`). Empty lines and those that begin with
-//! `#` are left out.
+//! A case is a line `NAME WORD GIVEN.. = OBJECT`. The object says the type of a column (`schema`). Empty lines and those
+//! that begin with `#` are left out.
 //!
-//! | word | given | the object | answer |
+//! | word | given | more in the object | answer |
 //! |---|---|---|---|
+//! | `zones` | | a batch a zone (`batches`), and what is said of zones below | of the table of the zones' records, a line a predicate |
+//! | `table` | | a type (`type`) and a batch of it (`table`), and the same | of that table, as it is, the same |
 //! | `stats` | the bytes of bounds, names of statistics | `batches` as those of a job; `fails`, the numbers of the source's calls that fail | a line a call of the wrapped source: the rows of a batch, or why there is none; a line a set: what is known of each statistic, or why none are gathered |
 //! | `legacy` | names of statistics | `table`, a chunk of the table of these statistics on the type | the aggregates, and a line a zone |
+//!
+//! Of zones the object says the rows of one (`zone`), the aggregates (`aggregates`; where none are listed, those that are
+//! kept of the type by themselves), where it isn't as many as the zones have the rows of the column (`rows`), and
+//! predicates (`ask`). A line of the answer has the number of a predicate and a flag a zone, or why there is none.
+//!
+//! A predicate is a list of its parts, each behind those that it joins: `is_null`, `is_not_null`, `and`, `or`, `not`, and a
+//! pair of `eq`, `not_eq`, `lt`, `lt_eq`, `gt` or `gt_eq` and a literal. A literal is null, a truth value, a whole number, a
+//! text, or a list: `[]` is the list without elements, and `["00ff"]` bytes as hex text.
 #![tactic(auto)]
 
+mod ask;
 mod case;
 mod files;
 mod given;
 mod legacy;
-mod shown;
+mod maps;
+mod zones;
 
+use crate::case::StatsCases;
 use std::io;
+use vx_case_lines::answers;
 
 fn main(rt: HostRuntime) -> anyhow::Result<()> {
     let alloc = rt.alloc();
     let cases = io::read_to_string(alloc, rt.stdin())?;
-    for line in cases.lines() {
-        let text = case::answer(alloc, line)?;
-        print!(rt; "{text}")?;
-    }
+    let text = answers::<StatsCases>(alloc, &cases)?;
+    print!(rt; "{text}")?;
     Ok(())
 }

@@ -1,44 +1,58 @@
 //! Aggregates by their names.
 
-use crate::given::value;
+use serde_json::Value;
 use std::alloc::{AllocError, Global};
-use vx_aggregate::{AggregateFn, SpecError, default_zoned_aggregate_fns};
+use vx_aggregate::{AggregateFn, default_zoned_aggregate_fns};
+use vx_case_lines::Answer;
 use vx_model::DType;
 use vx_strategy_json::read_aggregate;
 
-/// The aggregate that its id and its options name.
-fn again(
-    alloc: Global,
-    aggregate: AggregateFn,
-) -> Result<Result<AggregateFn, SpecError>, AllocError> {
-    let options = aggregate.options(alloc)?;
-    Ok(AggregateFn::from_spec(aggregate.id(), &options))
+pub(crate) fn tell(alloc: Global, answer: &mut Answer, given: &str) {
+    match read(alloc, given) {
+        Ok(aggregate) => {
+            write!(answer, "{aggregate}, again ");
+            push_again(answer, aggregate, aggregate.options(alloc));
+        }
+        Err(error) => answer.push(error),
+    }
 }
 
 fn read(alloc: Global, given: &str) -> anyhow::Result<AggregateFn> {
-    let value = value(alloc, given)?;
-    Ok(read_aggregate(&value)?)
+    let value = Value::from_str(alloc, given)?;
+    let aggregate = read_aggregate(&value);
+    drop(value);
+    Ok(aggregate?)
 }
 
-pub(crate) fn aggregate(alloc: Global, given: &str) -> anyhow::Result<String> {
-    let aggregate = read(alloc, given)?;
-    let again = again(alloc, aggregate)? == Ok(aggregate);
-    Ok(format!(in alloc; "{aggregate}, again {again}")?)
+/// Whether the aggregate is the one that its id and its options name.
+fn push_again(answer: &mut Answer, aggregate: AggregateFn, options: Result<Vec<u8>, AllocError>) {
+    match options {
+        Ok(options) => {
+            let again = AggregateFn::from_spec(aggregate.id(), &options) == Ok(aggregate);
+            drop(options);
+            answer.push(again);
+        }
+        Err(error) => answer.push(error),
+    }
 }
 
-pub(crate) fn zoned(alloc: Global, dtype: &DType) -> Result<String, AllocError> {
-    let kept = default_zoned_aggregate_fns(alloc, dtype)?;
-    shown(alloc, &kept)
+/// Those that are kept of the type by themselves.
+pub(crate) fn tell_kept(alloc: Global, answer: &mut Answer, dtype: &DType) {
+    match default_zoned_aggregate_fns(alloc, dtype) {
+        Ok(kept) => {
+            push_aggregates(answer, &kept);
+            drop(kept);
+        }
+        Err(error) => answer.push(error),
+    }
 }
 
 /// The aggregates, one behind the other.
-fn shown(alloc: Global, aggregates: &[AggregateFn]) -> Result<String, AllocError> {
-    let mut text = String::new(alloc);
-    for aggregate in aggregates {
-        if !text.is_empty() {
-            text.push_str(", ")?;
+fn push_aggregates(answer: &mut Answer, aggregates: &[AggregateFn]) {
+    for i in 0..aggregates.len() {
+        if i > 0 {
+            answer.push_str(", ");
         }
-        write!(text, "{aggregate}")?;
+        answer.push(aggregates[i]);
     }
-    Ok(text)
 }

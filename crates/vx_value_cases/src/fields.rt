@@ -1,8 +1,26 @@
 //! Masks of fields.
 
 use std::alloc::{AllocError, Global};
+use vx_case_lines::Answer;
 use vx_field_path::{FieldMask, FieldPath};
 use vx_model::Text;
+
+pub(crate) fn tell(alloc: Global, answer: &mut Answer, given: &str) {
+    match mask(alloc, given) {
+        Ok(mask) => tell_mask(alloc, answer, mask),
+        Err(error) => answer.push(error),
+    }
+}
+
+/// The mask below the first name is what the mask becomes, so it is told behind what the mask is.
+fn tell_mask(alloc: Global, answer: &mut Answer, mask: FieldMask) {
+    let mut rest = Answer::new(alloc);
+    write!(rest, ", all fields {}, first ", mask.matches_all());
+    push_first(&mut rest, &mask);
+    answer.push_str("below ");
+    push_mask(answer, mask.step_into().as_ref());
+    answer.push_all(rest);
+}
 
 fn path(alloc: Global, words: &str) -> Result<FieldPath, AllocError> {
     let mut names = Vec::new(alloc);
@@ -23,35 +41,27 @@ pub(crate) fn mask(alloc: Global, text: &str) -> Result<FieldMask, AllocError> {
 }
 
 /// The mask as it is given, and `-` for none.
-pub(crate) fn shown(alloc: Global, mask: Option<FieldMask>) -> Result<String, AllocError> {
+pub(crate) fn push_mask(answer: &mut Answer, mask: Option<&FieldMask>) {
     match mask {
-        None => String::from_str(alloc, "-"),
-        Some(FieldMask::All) => String::from_str(alloc, "all"),
-        Some(FieldMask::Prefix(path)) => with_names(alloc, "prefix", &path),
-        Some(FieldMask::Exact(path)) => with_names(alloc, "exact", &path),
+        None => answer.push_str("-"),
+        Some(FieldMask::All) => answer.push_str("all"),
+        Some(FieldMask::Prefix(path)) => push_path(answer, "prefix", path),
+        Some(FieldMask::Exact(path)) => push_path(answer, "exact", path),
     }
 }
 
-fn with_names(alloc: Global, kind: &str, path: &FieldPath) -> Result<String, AllocError> {
-    let mut text = String::from_str(alloc, kind)?;
+/// A word, and the path's names.
+pub(crate) fn push_path(answer: &mut Answer, word: &str, path: &FieldPath) {
+    answer.push_str(word);
     for name in path.parts() {
-        text.push_str(" ")?;
-        text.push_str(name.as_str())?;
+        answer.push_str(" ");
+        answer.push_str(name.as_str());
     }
-    Ok(text)
 }
 
-fn first_name(alloc: Global, mask: &FieldMask) -> Result<String, AllocError> {
+fn push_first(answer: &mut Answer, mask: &FieldMask) {
     match mask.starting_field() {
-        Some(name) => String::from_str(alloc, name.as_str()),
-        None => String::from_str(alloc, "-"),
+        Some(name) => answer.push_str(name.as_str()),
+        None => answer.push_str("-"),
     }
-}
-
-pub(crate) fn mask_answer(alloc: Global, given: &str) -> anyhow::Result<String> {
-    let mask = mask(alloc, given)?;
-    let all = mask.matches_all();
-    let first = first_name(alloc, &mask)?;
-    let below = shown(alloc, mask.step_into())?;
-    Ok(format!(in alloc; "below {below}, all fields {all}, first {first}")?)
 }

@@ -30,17 +30,19 @@ mod given;
 mod matching;
 mod overrides;
 mod paths;
+mod stats;
 mod strategies;
 mod tables;
+mod types;
 
+use crate::case::ValueCases;
 use std::io;
+use vx_case_lines::answers;
 
 fn main(rt: HostRuntime) -> anyhow::Result<()> {
     let alloc = rt.alloc();
     let cases = io::read_to_string(alloc, rt.stdin())?;
-    for line in cases.lines() {
-        let text = case::answer(alloc, line)?;
-        print!(rt; "{text}")?;
-    }
+    let text = answers::<ValueCases>(alloc, &cases)?;
+    print!(rt; "{text}")?;
     Ok(())
 }

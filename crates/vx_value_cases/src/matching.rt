@@ -1,14 +1,24 @@
 //! The fields of a struct layout that masks mean.
 
-use crate::fields::{mask, shown};
+use crate::fields::{mask, push_mask};
 use std::alloc::{AllocError, Global};
-use vx_case_lines::boxed;
+use vx_case_lines::Answer;
 use vx_field_path::FieldMask;
 use vx_layout_fields::LayoutFields;
 use vx_layout_tree::{
     ChunkedLayout, Layout, LayoutError, StructLayout, fields_in, layout_children,
 };
 use vx_model::DType;
+
+pub(crate) fn tell(alloc: Global, answer: &mut Answer, dtype: &DType, given: &str) {
+    match struct_of(alloc, dtype) {
+        Ok(layout) => {
+            tell_matched(alloc, answer, &layout, given);
+            drop(layout);
+        }
+        Err(error) => answer.push(error),
+    }
+}
 
 /// Of the type, without rows.
 fn no_rows(alloc: Global, dtype: &DType) -> Result<Layout, LayoutError> {
@@ -17,17 +27,37 @@ fn no_rows(alloc: Global, dtype: &DType) -> Result<Layout, LayoutError> {
     Ok(ChunkedLayout::new(0, dtype, children)?.into_layout())
 }
 
-fn columns(alloc: Global, dtype: &DType) -> Result<Vec<Layout>, LayoutError> {
-    let mut columns = Vec::new(alloc);
+fn push_columns(
+    alloc: Global,
+    columns: &mut Vec<Layout>,
+    dtype: &DType,
+) -> Result<(), LayoutError> {
     for field in fields_in(dtype) {
         columns.push(no_rows(alloc, &field.dtype)?)?;
     }
-    Ok(columns)
+    Ok(())
+}
+
+fn columns(alloc: Global, dtype: &DType) -> Result<Vec<Layout>, LayoutError> {
+    let mut columns = Vec::new(alloc);
+    match push_columns(alloc, &mut columns, dtype) {
+        Ok(()) => Ok(columns),
+        Err(error) => {
+            drop(columns);
+            Err(error)
+        }
+    }
 }
 
 fn struct_of(alloc: Global, dtype: &DType) -> Result<StructLayout, LayoutError> {
     let columns = columns(alloc, dtype)?;
-    StructLayout::new(0, dtype.clone()?, columns)
+    match dtype.clone() {
+        Ok(dtype) => StructLayout::new(0, dtype, columns),
+        Err(error) => {
+            drop(columns);
+            Err(LayoutError::from(error))
+        }
+    }
 }
 
 fn masks(alloc: Global, text: &str) -> Result<Vec<FieldMask>, AllocError> {
@@ -41,40 +71,46 @@ fn masks(alloc: Global, text: &str) -> Result<Vec<FieldMask>, AllocError> {
     Ok(masks)
 }
 
+fn tell_matched<L: LayoutFields>(alloc: Global, answer: &mut Answer, layout: &L, given: &str) {
+    match masks(alloc, given) {
+        Ok(masks) => {
+            push_matches(answer, layout.matching_fields(alloc, &masks));
+            drop(masks);
+        }
+        Err(error) => answer.push(error),
+    }
+}
+
 /// The number of each field with the mask as seen from it, and `-` for none.
-fn listed(alloc: Global, matches: Vec<(FieldMask, u64)>) -> Result<String, AllocError> {
+fn push_matches(answer: &mut Answer, matches: Result<Vec<(FieldMask, u64)>, LayoutError>) {
+    match matches {
+        Ok(matches) => {
+            push_listed(answer, &matches);
+            drop(matches);
+        }
+        Err(error) => {
+            push_refusal(answer, &error);
+            drop(error);
+        }
+    }
+}
+
+fn push_listed(answer: &mut Answer, matches: &[(FieldMask, u64)]) {
     if matches.is_empty() {
-        return String::from_str(alloc, "-");
+        answer.push_str("-");
     }
-    let mut text = String::new(alloc);
-    for (mask, number) in matches {
-        let mask = shown(alloc, Some(mask))?;
-        let comma = if text.is_empty() { "" } else { ", " };
-        write!(text, "{comma}{number} {mask}")?;
-    }
-    Ok(text)
-}
-
-fn refusal(alloc: Global, error: Box<LayoutError>) -> Result<String, AllocError> {
-    match &*error {
-        LayoutError::FieldNotFound(name) => format!(in alloc; "FieldNotFound({})", name.as_str()),
-        error => format!(in alloc; "{error}"),
+    for i in 0..matches.len() {
+        let (mask, number) = &matches[i];
+        answer.push_str(if i > 0 { ", " } else { "" });
+        answer.push(*number);
+        answer.push_str(" ");
+        push_mask(answer, Some(mask));
     }
 }
 
-fn matched<L: LayoutFields>(
-    alloc: Global,
-    layout: &L,
-    masks: &[FieldMask],
-) -> Result<String, AllocError> {
-    match layout.matching_fields(alloc, masks) {
-        Ok(matches) => listed(alloc, matches),
-        Err(error) => refusal(alloc, boxed(alloc, error)?),
+fn push_refusal(answer: &mut Answer, error: &LayoutError) {
+    match error {
+        LayoutError::FieldNotFound(name) => write!(answer, "FieldNotFound({})", name.as_str()),
+        error => answer.push(error),
     }
-}
-
-pub(crate) fn matched_fields(alloc: Global, dtype: &DType, given: &str) -> anyhow::Result<String> {
-    let masks = masks(alloc, given)?;
-    let layout = boxed(alloc, struct_of(alloc, dtype)?)?;
-    Ok(matched(alloc, &*layout, &masks)?)
 }

@@ -1,11 +1,30 @@
 //! Writers of paths in tables.
 
+use crate::fields::push_path;
 use crate::strategies::flat;
 use std::alloc::{AllocError, Global};
-use vx_case_lines::parts;
+use vx_case_lines::{Answer, halves};
 use vx_field_path::FieldPath;
 use vx_model::Text;
 use vx_strategy::{BuildError, TableStrategy};
+
+pub(crate) fn tell(alloc: Global, answer: &mut Answer, given: &str) {
+    let (standing, new) = halves(given);
+    match paths(alloc, standing, new) {
+        Ok((standing, new)) => tell_table(answer, with_writers(alloc, standing, new)),
+        Err(error) => answer.push(error),
+    }
+}
+
+fn paths(alloc: Global, standing: &str, new: &str) -> Result<(FieldPath, FieldPath), AllocError> {
+    let standing = path(alloc, standing)?;
+    Ok((standing, path(alloc, new)?))
+}
+
+/// The path of one name.
+fn path(alloc: Global, name: &str) -> Result<FieldPath, AllocError> {
+    FieldPath::from_name(alloc, Text::from_str(alloc, name)?)?.clone()
+}
 
 /// A table whose leaf, validity and lists were set after it was made.
 fn table(alloc: Global) -> Result<TableStrategy, BuildError> {
@@ -13,11 +32,6 @@ fn table(alloc: Global) -> Result<TableStrategy, BuildError> {
         .with_default_strategy(alloc, flat())?
         .with_validity_strategy(alloc, flat())?
         .with_list_layout(alloc)
-}
-
-/// The path of one name.
-fn path(alloc: Global, name: &str) -> Result<FieldPath, AllocError> {
-    FieldPath::from_name(alloc, Text::from_str(alloc, name)?)?.clone()
 }
 
 /// The table with writers of both paths.
@@ -31,37 +45,26 @@ fn with_writers(
         .with_field_writer(alloc, new, flat())
 }
 
-pub(crate) fn overridden(alloc: Global, given: &str) -> anyhow::Result<String> {
-    let (standing, new) = parts(given)?;
-    let standing = path(alloc, standing)?;
-    let new = path(alloc, new)?;
-    told(alloc, with_writers(alloc, standing, new))
-}
-
-/// Whether there is a table, or why not.
-fn told(alloc: Global, table: Result<TableStrategy, BuildError>) -> anyhow::Result<String> {
+/// Whether there is a table, or which paths overlap.
+fn tell_table(answer: &mut Answer, table: Result<TableStrategy, BuildError>) {
     match table {
         Ok(table) => {
             drop(table);
-            Ok(String::from_str(alloc, "Ok")?)
+            answer.push_str("Ok");
         }
-        Err(BuildError::OverlappingPath(standing, new)) => overlap(alloc, &standing, &new),
-        Err(error) => Ok(format!(in alloc; "{error:?}")?),
+        Err(error) => {
+            push_refusal(answer, &error);
+            drop(error);
+        }
     }
 }
 
-fn overlap(alloc: Global, standing: &FieldPath, new: &FieldPath) -> anyhow::Result<String> {
-    let mut text = String::from_str(alloc, "standing")?;
-    push_names(&mut text, standing)?;
-    text.push_str(", new")?;
-    push_names(&mut text, new)?;
-    Ok(text)
-}
-
-fn push_names(text: &mut String, path: &FieldPath) -> Result<(), AllocError> {
-    for name in path.parts() {
-        text.push_str(" ")?;
-        text.push_str(name.as_str())?;
+fn push_refusal(answer: &mut Answer, error: &BuildError) {
+    match error {
+        BuildError::OverlappingPath(standing, new) => {
+            push_path(answer, "standing", standing);
+            push_path(answer, ", new", new);
+        }
+        error => answer.push_debug(error),
     }
-    Ok(())
 }

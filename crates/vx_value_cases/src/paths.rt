@@ -1,57 +1,65 @@
 //! Paths.
 
 use std::alloc::{AllocError, Global};
-use vx_case_lines::parts;
+use vx_case_lines::{Answer, halves, number};
 use vx_path::owned::{Path, path_le};
 
-fn path(alloc: Global, text: &str) -> anyhow::Result<Path> {
+/// Of the words `compare` and `child`.
+pub(crate) fn tell(alloc: Global, answer: &mut Answer, word: &str, given: &str) {
+    let (first, rest) = halves(given);
+    let told = if word == "compare" {
+        tell_compared(alloc, answer, first, rest)
+    } else {
+        tell_child(alloc, answer, first, rest)
+    };
+    if let Err(error) = told {
+        answer.push(error);
+    }
+}
+
+fn path(alloc: Global, text: &str) -> Result<Path, AllocError> {
     let mut numbers = Vec::new(alloc);
     for word in text.split_whitespace() {
         if word != "-" {
-            numbers.push(word.parse::<u64>()?)?;
+            numbers.push(number(word))?;
         }
     }
-    Ok(Path::from_slice(alloc, &numbers)?)
+    Path::from_slice(alloc, &numbers)
 }
 
-fn compared_to(alloc: Global, one: &Path, other: &Path) -> Result<String, AllocError> {
+fn tell_compared(
+    alloc: Global,
+    answer: &mut Answer,
+    one: &str,
+    other: &str,
+) -> Result<(), AllocError> {
+    let one = path(alloc, one)?;
+    let other = path(alloc, other)?;
+    push_compared(answer, &one, &other);
+    Ok(())
+}
+
+fn push_compared(answer: &mut Answer, one: &Path, other: &Path) {
     let less = one < other;
     let equal = one == other;
     let most = path_le(one.as_slice(), other.as_slice());
     let least = path_le(other.as_slice(), one.as_slice());
-    format!(in alloc; "less {less}, equal {equal}, at most {most}, at least {least}")
+    write!(
+        answer,
+        "less {less}, equal {equal}, at most {most}, at least {least}"
+    );
 }
 
-fn compared_with(alloc: Global, one: &Path, other: &str) -> anyhow::Result<String> {
-    let other = path(alloc, other)?;
-    Ok(compared_to(alloc, one, &other)?)
-}
-
-pub(crate) fn compared(alloc: Global, given: &str) -> anyhow::Result<String> {
-    let (one, other) = parts(given)?;
-    let one = path(alloc, one)?;
-    compared_with(alloc, &one, other)
-}
-
-fn child_of(alloc: Global, stem: &str, index: u64) -> anyhow::Result<Path> {
+fn tell_child(
+    alloc: Global,
+    answer: &mut Answer,
+    stem: &str,
+    rest: &str,
+) -> Result<(), AllocError> {
+    let (index, copied) = halves(rest);
     let stem = path(alloc, stem)?;
-    Ok(Path::child(alloc, stem.as_slice(), index)?)
-}
-
-fn copied_as(alloc: Global, child: &Path, path: &Path) -> Result<String, AllocError> {
-    let copy = path.clone()?;
-    let is_copy = copy == *child;
-    format!(in alloc; "{child:?}, a copy {is_copy}")
-}
-
-fn copied_from(alloc: Global, child: &Path, copied: &str) -> anyhow::Result<String> {
-    let copied = path(alloc, copied)?;
-    Ok(copied_as(alloc, child, &copied)?)
-}
-
-pub(crate) fn child(alloc: Global, given: &str) -> anyhow::Result<String> {
-    let (stem, rest) = parts(given)?;
-    let (index, copied) = parts(rest)?;
-    let child = child_of(alloc, stem, index.parse::<u64>()?)?;
-    copied_from(alloc, &child, copied)
+    let child = Path::child(alloc, stem.as_slice(), number(index))?;
+    let is_copy = path(alloc, copied)?.clone()? == child;
+    write!(answer, "{child:?}, a copy {is_copy}");
+    Ok(())
 }

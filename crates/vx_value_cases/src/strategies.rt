@@ -3,7 +3,7 @@
 use crate::given::{dtype, strategy};
 use anyhow::bail;
 use std::alloc::{AllocError, Global};
-use vx_case_lines::{boxed, parts};
+use vx_case_lines::{Answer, halves};
 use vx_model::{DType, Text};
 use vx_strategy::{
     BuildError, DictLayoutOptions, FlatLayoutStrategy, RepartitionWriterOptions, Strategy,
@@ -25,16 +25,16 @@ fn blocks_aiming_at(target: Option<u64>) -> RepartitionWriterOptions {
     }
 }
 
-pub(crate) fn block(alloc: Global, dtype: &DType, target: &str) -> Result<String, AllocError> {
+pub(crate) fn tell_block(answer: &mut Answer, dtype: &DType, target: &str) {
     let rows = blocks_aiming_at(target.parse().ok()).effective_block_len(dtype);
     let dictionary = dict_layout_supported(dtype);
-    format!(in alloc; "{rows} rows, dictionary {dictionary}")
+    write!(answer, "{rows} rows, dictionary {dictionary}");
 }
 
-pub(crate) fn defaults(alloc: Global) -> anyhow::Result<String> {
+pub(crate) fn tell_defaults(answer: &mut Answer) {
     let most = DictLayoutOptions::default().constraints.max_len;
     let rows = ZonedLayoutOptions::default().block_size;
-    Ok(format!(in alloc; "dictionary {most}, zone {rows}")?)
+    write!(answer, "dictionary {most}, zone {rows}");
 }
 
 /// A strategy of structs that has a writer of the fields of this name.
@@ -75,30 +75,34 @@ fn within<'a>(strategy: &'a Strategy, field: &Text) -> Option<&'a Strategy> {
     }
 }
 
-/// The kind of the strategy, and of what stands within.
-fn kinds(alloc: Global, strategy: &Strategy, field: &str) -> anyhow::Result<String> {
-    let field = Text::from_str(alloc, field)?;
-    match within(strategy, &field) {
-        Some(inner) => Ok(format!(in alloc; "{}, {}", kind(strategy), kind(inner))?),
-        None => Ok(String::from_str(alloc, kind(strategy))?),
+/// Of the words `copy`, `field` and `dispatch`.
+pub(crate) fn tell(alloc: Global, answer: &mut Answer, word: &str, given: &str) {
+    let (text, rest) = given.split_once(" / ").unwrap_or((given, given));
+    match asked(alloc, word, text) {
+        Ok(strategy) => {
+            tell_of(alloc, answer, word, &strategy, rest);
+            drop(strategy);
+        }
+        Err(error) => answer.push(error),
     }
 }
 
-/// The kind of the strategy, and whether the copy has its text.
-fn compared(alloc: Global, strategy: &Strategy, copy: &Strategy) -> anyhow::Result<String> {
-    let text = format!(in alloc; "{strategy:?}")?;
-    let same = format!(in alloc; "{copy:?}")?.as_str() == text.as_str();
-    Ok(format!(in alloc; "{}, {same}", kind(strategy))?)
+/// The strategy that the word asks about.
+fn asked(alloc: Global, word: &str, text: &str) -> anyhow::Result<Strategy> {
+    match word {
+        "field" => Ok(by_name(alloc, text)?),
+        _ => strategy(alloc, text),
+    }
 }
 
-/// What the table stands for at the type.
-fn at_type(alloc: Global, table: &Strategy, given: &str) -> anyhow::Result<Strategy> {
-    let Strategy::Table(table) = table else {
-        bail!("no table");
-    };
-    let (of, _) = parts(given)?;
-    let dtype = dtype(alloc, of)?;
-    Ok(dispatch(table, &dtype)?)
+fn tell_of(alloc: Global, answer: &mut Answer, word: &str, of: &Strategy, given: &str) {
+    match made(alloc, word, of, given) {
+        Ok(made) => {
+            push_made(alloc, answer, word, of, &made, given);
+            drop(made);
+        }
+        Err(error) => answer.push(error),
+    }
 }
 
 /// What the strategy stands for, or a copy of it.
@@ -109,36 +113,59 @@ fn made(alloc: Global, word: &str, of: &Strategy, given: &str) -> anyhow::Result
     }
 }
 
-fn shown(
+/// What the table stands for at the type.
+fn at_type(alloc: Global, table: &Strategy, given: &str) -> anyhow::Result<Strategy> {
+    let Strategy::Table(table) = table else {
+        bail!("no table");
+    };
+    let dtype = dtype(alloc, halves(given).0)?;
+    let strategy = dispatch(table, &dtype);
+    drop(dtype);
+    Ok(strategy?)
+}
+
+fn push_made(
     alloc: Global,
+    answer: &mut Answer,
     word: &str,
     of: &Strategy,
     made: &Strategy,
     given: &str,
-) -> anyhow::Result<String> {
+) {
     match word {
-        "copy" => compared(alloc, of, made),
-        "dispatch" => kinds(alloc, made, parts(given)?.1),
-        _ => kinds(alloc, made, given),
+        "copy" => push_compared(alloc, answer, of, made),
+        "dispatch" => push_kinds(alloc, answer, made, halves(given).1),
+        _ => push_kinds(alloc, answer, made, given),
     }
 }
 
-fn told_of(alloc: Global, word: &str, of: &Strategy, given: &str) -> anyhow::Result<String> {
-    let made = boxed(alloc, made(alloc, word, of, given)?)?;
-    shown(alloc, word, of, &made, given)
+/// The kind of the strategy, and whether the copy has its text.
+fn push_compared(alloc: Global, answer: &mut Answer, strategy: &Strategy, copy: &Strategy) {
+    answer.push_str(kind(strategy));
+    answer.push_str(", ");
+    answer.push_given(have_same_text(alloc, strategy, copy));
 }
 
-/// The strategy that the word asks about.
-fn asked(alloc: Global, word: &str, text: &str) -> anyhow::Result<Box<Strategy>> {
-    match word {
-        "field" => Ok(boxed(alloc, by_name(alloc, text)?)?),
-        _ => strategy(alloc, text),
+fn have_same_text(alloc: Global, one: &Strategy, other: &Strategy) -> Result<bool, AllocError> {
+    let text = format!(in alloc; "{one:?}")?;
+    Ok(format!(in alloc; "{other:?}")?.as_str() == text.as_str())
+}
+
+/// The kind of the strategy, and of what stands within.
+fn push_kinds(alloc: Global, answer: &mut Answer, strategy: &Strategy, field: &str) {
+    answer.push_str(kind(strategy));
+    match Text::from_str(alloc, field) {
+        Ok(field) => {
+            push_within(answer, within(strategy, &field));
+            drop(field);
+        }
+        Err(error) => answer.push(error),
     }
 }
 
-/// Of the words `copy`, `field` and `dispatch`.
-pub(crate) fn told(alloc: Global, word: &str, given: &str) -> anyhow::Result<String> {
-    let (text, rest) = given.split_once(" / ").unwrap_or((given, given));
-    let strategy = asked(alloc, word, text)?;
-    told_of(alloc, word, &strategy, rest)
+fn push_within(answer: &mut Answer, within: Option<&Strategy>) {
+    if let Some(inner) = within {
+        answer.push_str(", ");
+        answer.push_str(kind(inner));
+    }
 }

@@ -4,22 +4,22 @@ use Rattle.vx_machine_ids.specs.Stock.{one}
 use Rattle.vx_machine_ids.specs.Balance.{Owned}
 use Rattle.vx_machine_ids.proofs.Lists.{at_owned, at_moved}
 use Rattle.vx_machine_tasks.specs.Pairs.{next_pairs, task_pairs, tasks_pairs, AllMay}
-use Rattle.vx_machine_tasks.specs.Ready.{may_now, kids_of, ready_in, ready_among, counted}
-use Rattle.vx_machine_tasks.specs.Sizes.{task_count, count_of_all}
-use Rattle.vx_machine_tasks.specs.Stocks.{task_stock, tasks_stock}
-use Rattle.vx_machine_tasks.specs.declared.task.Task.{Task, out-Task}
-use Rattle.vx_machine_tasks.specs.declared.task.Task.TheOpen.{Task-F}
-use Rattle.vx_machine_tasks.specs.declared.task.Task.TheViews.{roll-Task, the_lemmas}
-use Rattle.vx_machine_view.specs.State.{no_tasks}
-use Rattle.vx_machine_tasks.specs.View.{desk_of, task_row, row}
+use Rattle.vx_machine_task.specs.Ready.{may_now, kids_of, ready_in, ready_among, counted}
+use Rattle.vx_machine_task.specs.Sizes.{task_count, count_of_all}
+use Rattle.vx_machine_task.specs.Stocks.{task_stock, tasks_stock}
+use Rattle.vx_machine_task.specs.declared.task.Task.{Task, out-Task}
+use Rattle.vx_machine_task.specs.declared.task.Task.TheOpen.{Task-F}
+use Rattle.vx_machine_task.specs.declared.task.Task.TheViews.{roll-Task, the_lemmas}
+use Rattle.vx_machine_state.specs.State.{no_tasks}
+use Rattle.vx_machine_task.specs.View.{desk_of, task_row, row}
 use Rattle.vx_sink.specs.ContextView.{counted as counted_bytes}
-use Rattle.vx_machine_tasks.specs.Ledger.{task_reserved, tasks_reserved}
-use Rattle.vx_machine_tasks.proofs.PaidSteps.{slice_paid, slice_within, at_within, at_paid}
-use Rattle.vx_machine_tasks.proofs.ReadyViews.{none_before, behind_own}
+use Rattle.vx_machine_task.specs.Ledger.{task_reserved, tasks_reserved}
+use Rattle.vx_machine_task.proofs.PaidSteps.{slice_paid, slice_within, at_within, at_paid}
+use Rattle.vx_machine_task.proofs.ReadyViews.{none_before, behind_own}
 use Rattle.vx_machine_tasks.proofs.StepLifts.{own_done, own_fails, below_done, below_fails, kid_done, kid_fails}
-use Rattle.vx_machine_tasks.proofs.TaskParts.{out_roll, roll_out, task_count_out, head_owned, kids_owned, slice_moved, kids_of_roll, count_at}
+use Rattle.vx_machine_task.proofs.TaskParts.{out_roll, roll_out, task_count_out, head_owned, kids_owned, slice_moved, kids_of_roll, count_at}
 use Rattle.vx_machine_tasks.proofs.PairSteps.{head_may, kids_may, kid_may}
-use Rattle.vx_machine_tasks.proofs.Readiness.{ready_in_out, one_true}
+use Rattle.vx_machine_task.proofs.Readiness.{ready_in_out, one_true}
 use Rattle.std.specs.FinMap as fin
 use Rattle.vx_kept.specs.Kept.{Fresh, Knows, KnowsFrom, asked_of, ready_of, kids_of as kids_in}
 use Rattle.std.specs.Vec.{with_item}
@@ -27,116 +27,116 @@ use Rattle.vx_kept.specs.declared.counts.Counts.{Counts, out-Counts}
 use Rattle.vx_kept.specs.declared.counts.Counts.TheOpen.{Counts-F}
 use Rattle.vx_kept.proofs.Parts.{out_roll as counts_roll}
 use Rattle.vx_kept.proofs.Asking.{fresh_knows, fresh_kid}
-use Rattle.vx_machine_tasks.proofs.Counting.{fresh_sum, Found, found, kid_is, stepped_known}
+use Rattle.vx_machine_task.proofs.Counting.{fresh_sum, Found, found, kid_is, stepped_known}
 use Rattle.vx_machine_tasks.proofs.+step.Goals as goal
 
-pub task::Task::step-may-ready-requires : goal.task::Task::step-may-ready-requires
-task::Task::step-may-ready-requires g t c = head_owned (g.O.Order.active c.args.order.now) c.args.self.now c.requires.owned
+pub steps::step-may-ready-requires : goal.steps::step-may-ready-requires
+steps::step-may-ready-requires g t c = head_owned (g.O.Order.active c.args.order.now) c.args.task.now c.requires.owned
 
-pub task::Task::step-act-requires-clause-ready : goal.task::Task::step-act-requires-clause-ready
-task::Task::step-act-requires-clause-ready g t c =
+pub steps::step-act-requires-clause-ready : goal.steps::step-act-requires-clause-ready
+steps::step-act-requires-clause-ready g t c =
     let u : Active = g.O.Order.active c.args.order.now in
-    let a : c.may-ready.result ≡ may_now u (out-Task c.args.self.now).head (kids_of (out-Task c.args.self.now).kids.items) = c.may-ready.ensures.told ∙ ap (λ z. may_now u (out-Task c.args.self.now).head (kids_of z)) c.deref.ensures.value in
-    let now : may_now u (out-Task c.args.self.now).head (kids_of (out-Task c.args.self.now).kids.items) ≡ true = sym a ∙ one_true c.may-ready.result c.args.k (subst (λ n. c.args.k < n) c.one-own.ensures c.if-k-own.true) in
-    subst (λ (z : Task-F Task). may_now u z.head (kids_of z.kids.items) ≡ true) (sym (out_roll (out-Task c.args.self.now))) now
+    let a : c.may-ready.result ≡ may_now u (out-Task c.args.task.now).head (kids_of (out-Task c.args.task.now).kids.items) = c.may-ready.ensures.told ∙ ap (λ z. may_now u (out-Task c.args.task.now).head (kids_of z)) c.deref.ensures.value in
+    let now : may_now u (out-Task c.args.task.now).head (kids_of (out-Task c.args.task.now).kids.items) ≡ true = sym a ∙ one_true c.may-ready.result c.args.k (subst (λ n. c.args.k < n) c.one-own.ensures c.if-k-own.true) in
+    subst (λ (z : Task-F Task). may_now u z.head (kids_of z.kids.items) ≡ true) (sym (out_roll (out-Task c.args.task.now))) now
 
-pub task::Task::step-act-requires-clause-allowed : goal.task::Task::step-act-requires-clause-allowed
-task::Task::step-act-requires-clause-allowed g t c =
-    subst (λ (z : Task-F Task). AllMay (g.O.Order.may_write c.args.order.now) (next_pairs z.head.todo.items)) (sym (out_roll (out-Task c.args.self.now)))
-    (head_may (g.O.Order.may_write c.args.order.now) c.args.self.now c.requires.allowed)
+pub steps::step-act-requires-clause-allowed : goal.steps::step-act-requires-clause-allowed
+steps::step-act-requires-clause-allowed g t c =
+    subst (λ (z : Task-F Task). AllMay (g.O.Order.may_write c.args.order.now) (next_pairs z.head.todo.items)) (sym (out_roll (out-Task c.args.task.now)))
+    (head_may (g.O.Order.may_write c.args.order.now) c.args.task.now c.requires.allowed)
 
-pub task::Task::step-act-requires-clause-known : goal.task::Task::step-act-requires-clause-known
-task::Task::step-act-requires-clause-known g t c =
+pub steps::step-act-requires-clause-known : goal.steps::step-act-requires-clause-known
+steps::step-act-requires-clause-known g t c =
     let u : Active = g.O.Order.active c.args.order.now in
     let x = c.args.counts.now in
-    let ks = (out-Task c.args.self.now).kids.items in
-    subst (λ (z : Task-F Task). Knows x (row z.kids.items)) (sym (out_roll (out-Task c.args.self.now))) (fresh_knows (fin.keys u) (asked_of x) 0 (ready_of x) (kids_in x) (row ks) c.requires.fresh)
+    let ks = (out-Task c.args.task.now).kids.items in
+    subst (λ (z : Task-F Task). Knows x (row z.kids.items)) (sym (out_roll (out-Task c.args.task.now))) (fresh_knows (fin.keys u) (asked_of x) 0 (ready_of x) (kids_in x) (row ks) c.requires.fresh)
 
-pub task::Task::step-step_kids-requires : goal.task::Task::step-step_kids-requires
-task::Task::step-step_kids-requires g t c κs within =
+pub steps::step-step_kids-requires : goal.steps::step-step_kids-requires
+steps::step-step_kids-requires g t c κs within =
     let u : Active = g.O.Order.active c.args.order.now in
-    let v : out-Task (roll-Task (out-Task c.args.self.now)) ≡ out-Task c.args.self.now = out_roll (out-Task c.args.self.now) in
-    let kv : c.deref_mut.result.now ≡ (out-Task c.args.self.now).kids.items = c.deref_mut.ensures.value ∙ ap (λ (z : Task-F Task). z.kids.items) v in
-    let o : Owned u (tasks_stock c.deref_mut.result.now) = subst (λ z. Owned u (tasks_stock z)) (sym kv) (kids_owned u c.args.self.now c.requires.owned) in
-    let n : count_of_all c.deref_mut.result.now ≡ count_of_all (out-Task c.args.self.now).kids.items = ap count_of_all kv in
-    let m : task_count c.args.self.now ≡ 1 + count_of_all (out-Task c.args.self.now).kids.items = task_count_out c.args.self.now in
-    let falls : 2 * count_of_all c.deref_mut.result.now + 1 < 2 * task_count c.args.self.now = omega (arith, n, m) in
-    let a : c.may-ready.result ≡ may_now u (out-Task c.args.self.now).head (kids_of (out-Task c.args.self.now).kids.items) = c.may-ready.ensures.told ∙ ap (λ z. may_now u (out-Task c.args.self.now).head (kids_of z)) c.deref.ensures.value in
-    let x : c.one-own.result ≡ one (may_now u (out-Task c.args.self.now).head (kids_of (out-Task c.args.self.now).kids.items)) = c.one-own.ensures ∙ ap one a in
-    let e : ready_in u c.args.self.now ≡ one (may_now u (out-Task c.args.self.now).head (kids_of (out-Task c.args.self.now).kids.items)) + ready_among u (out-Task c.args.self.now).kids.items = ready_in_out u c.args.self.now in
-    let y : ready_among u c.deref_mut.result.now ≡ ready_among u (out-Task c.args.self.now).kids.items = ap (ready_among u) kv in
+    let v : out-Task (roll-Task (out-Task c.args.task.now)) ≡ out-Task c.args.task.now = out_roll (out-Task c.args.task.now) in
+    let kv : c.deref_mut.result.now ≡ (out-Task c.args.task.now).kids.items = c.deref_mut.ensures.value ∙ ap (λ (z : Task-F Task). z.kids.items) v in
+    let o : Owned u (tasks_stock c.deref_mut.result.now) = subst (λ z. Owned u (tasks_stock z)) (sym kv) (kids_owned u c.args.task.now c.requires.owned) in
+    let n : count_of_all c.deref_mut.result.now ≡ count_of_all (out-Task c.args.task.now).kids.items = ap count_of_all kv in
+    let m : task_count c.args.task.now ≡ 1 + count_of_all (out-Task c.args.task.now).kids.items = task_count_out c.args.task.now in
+    let falls : 2 * count_of_all c.deref_mut.result.now + 1 < 2 * task_count c.args.task.now = omega (arith, n, m) in
+    let a : c.may-ready.result ≡ may_now u (out-Task c.args.task.now).head (kids_of (out-Task c.args.task.now).kids.items) = c.may-ready.ensures.told ∙ ap (λ z. may_now u (out-Task c.args.task.now).head (kids_of z)) c.deref.ensures.value in
+    let x : c.one-own.result ≡ one (may_now u (out-Task c.args.task.now).head (kids_of (out-Task c.args.task.now).kids.items)) = c.one-own.ensures ∙ ap one a in
+    let e : ready_in u c.args.task.now ≡ one (may_now u (out-Task c.args.task.now).head (kids_of (out-Task c.args.task.now).kids.items)) + ready_among u (out-Task c.args.task.now).kids.items = ready_in_out u c.args.task.now in
+    let y : ready_among u c.deref_mut.result.now ≡ ready_among u (out-Task c.args.task.now).kids.items = ap (ready_among u) kv in
     let there : c.args.k - c.one-own.result < counted (ready_among u c.deref_mut.result.now) = omega (arith, x, e, y, c.requires.there, c.if-k-own.false) in
     let may : AllMay (g.O.Order.may_write c.args.order.now) (tasks_pairs c.deref_mut.result.now) =
-    subst (λ z. AllMay (g.O.Order.may_write c.args.order.now) (tasks_pairs z)) (sym kv) (kids_may (g.O.Order.may_write c.args.order.now) c.args.self.now c.requires.allowed) in
+    subst (λ z. AllMay (g.O.Order.may_write c.args.order.now) (tasks_pairs z)) (sym kv) (kids_may (g.O.Order.may_write c.args.order.now) c.args.task.now c.requires.allowed) in
     let fresh : Fresh (fin.keys u) c.args.counts.now (row c.deref_mut.result.now) = subst (λ z. Fresh (fin.keys u) c.args.counts.now (row z)) (sym kv) c.requires.fresh in
-    let reserved : tasks_reserved c.deref_mut.result.now ≤ counted_bytes c.args.ctx.now = slice_within (counted_bytes c.args.ctx.now) c.args.self.now c.deref_mut.result.now kv c.requires.reserved in
+    let reserved : tasks_reserved c.deref_mut.result.now ≤ counted_bytes c.args.ctx.now = slice_within (counted_bytes c.args.ctx.now) c.args.task.now c.deref_mut.result.now kv c.requires.reserved in
     search (rules, arith, o, falls, there, may, fresh, reserved)
 
-pub task::Task::step-returns-clause-moved : goal.task::Task::step-returns-clause-moved
-task::Task::step-returns-clause-moved g t c =
-    let v : out-Task (roll-Task (out-Task c.args.self.now)) ≡ out-Task c.args.self.now = out_roll (out-Task c.args.self.now) in
-    let kv : c.deref_mut.result.now ≡ (out-Task c.args.self.now).kids.items = c.deref_mut.ensures.value ∙ ap (λ (z : Task-F Task). z.kids.items) v in
-    slice_moved (g.O.Order.active c.args.order.now) (g.O.Order.active c.step_kids.new.order) c.args.self.now _ c.requires.owned c.deref_mut.result.now c.step_kids.new.kids kv
+pub steps::step-returns-clause-moved : goal.steps::step-returns-clause-moved
+steps::step-returns-clause-moved g t c =
+    let v : out-Task (roll-Task (out-Task c.args.task.now)) ≡ out-Task c.args.task.now = out_roll (out-Task c.args.task.now) in
+    let kv : c.deref_mut.result.now ≡ (out-Task c.args.task.now).kids.items = c.deref_mut.ensures.value ∙ ap (λ (z : Task-F Task). z.kids.items) v in
+    slice_moved (g.O.Order.active c.args.order.now) (g.O.Order.active c.step_kids.new.order) c.args.task.now _ c.requires.owned c.deref_mut.result.now c.step_kids.new.kids kv
     (simp the_lemmas refl) (kids_of_roll _ _ c.step_kids.new.kids (omega (arith, c.deref_mut.ensures.len))) c.step_kids.ensures.moved
 
-pub task::Task::step-returns-clause-tracked : goal.task::Task::step-returns-clause-tracked
-task::Task::step-returns-clause-tracked g t c =
-    let v : out-Task (roll-Task (out-Task c.args.self.now)) ≡ out-Task c.args.self.now = out_roll (out-Task c.args.self.now) in
-    let kv : c.deref_mut.result.now ≡ (out-Task c.args.self.now).kids.items = c.deref_mut.ensures.value ∙ ap (λ (z : Task-F Task). z.kids.items) v in
-    slice_paid c.args.ctx.now c.step_kids.new.ctx c.args.self.now _ c.deref_mut.result.now c.step_kids.new.kids kv
+pub steps::step-returns-clause-tracked : goal.steps::step-returns-clause-tracked
+steps::step-returns-clause-tracked g t c =
+    let v : out-Task (roll-Task (out-Task c.args.task.now)) ≡ out-Task c.args.task.now = out_roll (out-Task c.args.task.now) in
+    let kv : c.deref_mut.result.now ≡ (out-Task c.args.task.now).kids.items = c.deref_mut.ensures.value ∙ ap (λ (z : Task-F Task). z.kids.items) v in
+    slice_paid c.args.ctx.now c.step_kids.new.ctx c.args.task.now _ c.deref_mut.result.now c.step_kids.new.kids kv
     (simp the_lemmas refl) (kids_of_roll _ _ c.step_kids.new.kids (omega (arith, c.deref_mut.ensures.len))) c.step_kids.ensures.tracked
 
-pub task::Task::step-returns-clause-known : goal.task::Task::step-returns-clause-known
-task::Task::step-returns-clause-known g t c =
+pub steps::step-returns-clause-known : goal.steps::step-returns-clause-known
+steps::step-returns-clause-known g t c =
     subst (λ z. OnOk c.step_kids.result (Knows c.step_kids.new.counts (row z))) (sym (kids_of_roll _ _ c.step_kids.new.kids (omega (arith, c.deref_mut.ensures.len)))) c.step_kids.ensures.known
 
 -- of the act that is the task's own, and of the children's
-pub task::Task::step-returns-then-k-own-clause-done : goal.task::Task::step-returns-then-k-own-clause-done
-task::Task::step-returns-then-k-own-clause-done g t c =
-    own_done c.args.ctx.now (g.C.CompressorPlugin.image (g.C.CompressorPlugin.kind c.args.compressor.now)) (g.O.Order.active c.args.order.now) (g.O.Order.outlet c.args.order.now) (g.O.Order.outlet c.act.new.order) c.act.result c.args.self.now (roll-Task (out-Task c.args.self.now)) c.args.k
-    (roll_out c.args.self.now) (none_before c.may-ready.result c.one-own.result c.args.k c.one-own.ensures c.if-k-own.true) (task_row c.act.new.self no_tasks) c.act.ensures.done
+pub steps::step-returns-then-k-own-clause-done : goal.steps::step-returns-then-k-own-clause-done
+steps::step-returns-then-k-own-clause-done g t c =
+    own_done c.args.ctx.now (g.C.CompressorPlugin.image (g.C.CompressorPlugin.kind c.args.compressor.now)) (g.O.Order.active c.args.order.now) (g.O.Order.outlet c.args.order.now) (g.O.Order.outlet c.act.new.order) c.act.result c.args.task.now (roll-Task (out-Task c.args.task.now)) c.args.k
+    (roll_out c.args.task.now) (none_before c.may-ready.result c.one-own.result c.args.k c.one-own.ensures c.if-k-own.true) (task_row c.act.new.task no_tasks) c.act.ensures.done
 
-pub task::Task::step-returns-then-k-own-clause-refused : goal.task::Task::step-returns-then-k-own-clause-refused
-task::Task::step-returns-then-k-own-clause-refused g t c =
-    own_fails c.args.ctx.now (g.C.CompressorPlugin.image (g.C.CompressorPlugin.kind c.args.compressor.now)) (g.O.Order.active c.args.order.now) (g.O.Order.outlet c.args.order.now) (g.O.Order.outlet c.act.new.order) c.act.result c.args.self.now (roll-Task (out-Task c.args.self.now)) c.args.k
-    (roll_out c.args.self.now) (none_before c.may-ready.result c.one-own.result c.args.k c.one-own.ensures c.if-k-own.true) c.act.ensures.refused
+pub steps::step-returns-then-k-own-clause-refused : goal.steps::step-returns-then-k-own-clause-refused
+steps::step-returns-then-k-own-clause-refused g t c =
+    own_fails c.args.ctx.now (g.C.CompressorPlugin.image (g.C.CompressorPlugin.kind c.args.compressor.now)) (g.O.Order.active c.args.order.now) (g.O.Order.outlet c.args.order.now) (g.O.Order.outlet c.act.new.order) c.act.result c.args.task.now (roll-Task (out-Task c.args.task.now)) c.args.k
+    (roll_out c.args.task.now) (none_before c.may-ready.result c.one-own.result c.args.k c.one-own.ensures c.if-k-own.true) c.act.ensures.refused
 
-pub task::Task::step-returns-clause-done : goal.task::Task::step-returns-clause-done
-task::Task::step-returns-clause-done g t c =
+pub steps::step-returns-clause-done : goal.steps::step-returns-clause-done
+steps::step-returns-clause-done g t c =
     let u : Active = g.O.Order.active c.args.order.now in
-    let h = (out-Task c.args.self.now).head in
-    let ks = (out-Task c.args.self.now).kids.items in
-    let v : out-Task (roll-Task (out-Task c.args.self.now)) ≡ out-Task c.args.self.now = out_roll (out-Task c.args.self.now) in
+    let h = (out-Task c.args.task.now).head in
+    let ks = (out-Task c.args.task.now).kids.items in
+    let v : out-Task (roll-Task (out-Task c.args.task.now)) ≡ out-Task c.args.task.now = out_roll (out-Task c.args.task.now) in
     let kv : c.deref_mut.result.now ≡ ks = c.deref_mut.ensures.value ∙ ap (λ (z : Task-F Task). z.kids.items) v in
     let a : c.may-ready.result ≡ may_now u h (kids_of ks) = c.may-ready.ensures.told ∙ ap (λ z. may_now u h (kids_of z)) c.deref.ensures.value in
     let x : c.one-own.result ≡ one (may_now u h (kids_of ks)) = c.one-own.ensures ∙ ap one a in
-    let p = behind_own u c.args.self.now c.args.k c.one-own.result x c.if-k-own.false c.requires.there in
-    below_done c.args.ctx.now (g.C.CompressorPlugin.image (g.C.CompressorPlugin.kind c.args.compressor.now)) u (g.O.Order.outlet c.args.order.now) (g.O.Order.outlet c.step_kids.new.order) c.step_kids.result c.args.self.now c.deref_mut.result.now c.args.k (c.args.k - c.one-own.result) kv p.0 p.1
+    let p = behind_own u c.args.task.now c.args.k c.one-own.result x c.if-k-own.false c.requires.there in
+    below_done c.args.ctx.now (g.C.CompressorPlugin.image (g.C.CompressorPlugin.kind c.args.compressor.now)) u (g.O.Order.outlet c.args.order.now) (g.O.Order.outlet c.step_kids.new.order) c.step_kids.result c.args.task.now c.deref_mut.result.now c.args.k (c.args.k - c.one-own.result) kv p.0 p.1
     _ c.step_kids.new.kids (simp the_lemmas refl) (kids_of_roll _ _ c.step_kids.new.kids (omega (arith, c.deref_mut.ensures.len))) c.step_kids.ensures.done
 
-pub task::Task::step-returns-clause-refused : goal.task::Task::step-returns-clause-refused
-task::Task::step-returns-clause-refused g t c =
+pub steps::step-returns-clause-refused : goal.steps::step-returns-clause-refused
+steps::step-returns-clause-refused g t c =
     let u : Active = g.O.Order.active c.args.order.now in
-    let h = (out-Task c.args.self.now).head in
-    let ks = (out-Task c.args.self.now).kids.items in
-    let v : out-Task (roll-Task (out-Task c.args.self.now)) ≡ out-Task c.args.self.now = out_roll (out-Task c.args.self.now) in
+    let h = (out-Task c.args.task.now).head in
+    let ks = (out-Task c.args.task.now).kids.items in
+    let v : out-Task (roll-Task (out-Task c.args.task.now)) ≡ out-Task c.args.task.now = out_roll (out-Task c.args.task.now) in
     let kv : c.deref_mut.result.now ≡ ks = c.deref_mut.ensures.value ∙ ap (λ (z : Task-F Task). z.kids.items) v in
     let a : c.may-ready.result ≡ may_now u h (kids_of ks) = c.may-ready.ensures.told ∙ ap (λ z. may_now u h (kids_of z)) c.deref.ensures.value in
     let x : c.one-own.result ≡ one (may_now u h (kids_of ks)) = c.one-own.ensures ∙ ap one a in
-    let p = behind_own u c.args.self.now c.args.k c.one-own.result x c.if-k-own.false c.requires.there in
-    below_fails c.args.ctx.now (g.C.CompressorPlugin.image (g.C.CompressorPlugin.kind c.args.compressor.now)) u (g.O.Order.outlet c.args.order.now) (g.O.Order.outlet c.step_kids.new.order) c.step_kids.result c.args.self.now c.deref_mut.result.now c.args.k (c.args.k - c.one-own.result) kv p.0 p.1 c.step_kids.ensures.refused
+    let p = behind_own u c.args.task.now c.args.k c.one-own.result x c.if-k-own.false c.requires.there in
+    below_fails c.args.ctx.now (g.C.CompressorPlugin.image (g.C.CompressorPlugin.kind c.args.compressor.now)) u (g.O.Order.outlet c.args.order.now) (g.O.Order.outlet c.step_kids.new.order) c.step_kids.result c.args.task.now c.deref_mut.result.now c.args.k (c.args.k - c.one-own.result) kv p.0 p.1 c.step_kids.ensures.refused
 
 -- ---- of the children
 
-pub step::step_kids-find-place-requires : goal.step::step_kids-find-place-requires
-step::step_kids-find-place-requires g t c =
+pub steps::step_kids-find-place-requires : goal.steps::step_kids-find-place-requires
+steps::step_kids-find-place-requires g t c =
     let u : Active = g.O.Order.active c.args.order.now in
     let x = c.args.counts.now in
     let e : counted (sum (ready_of x)) ≡ counted (ready_among u c.args.kids.now) = fresh_sum u c.args.kids.now (asked_of x) (ready_of x) (kids_in x) c.requires.fresh in
     omega (arith, e, c.requires.there)
 
-pub step::step_kids-offset_bounds-kids-place : goal.step::step_kids-offset_bounds-kids-place
-step::step_kids-offset_bounds-kids-place g t c =
+pub steps::step_kids-offset_bounds-kids-place : goal.steps::step_kids-offset_bounds-kids-place
+steps::step_kids-offset_bounds-kids-place g t c =
     let u : Active = g.O.Order.active c.args.order.now in
     let y = c.args.counts.now in
     let ts = c.args.kids.now in
@@ -146,8 +146,8 @@ step::step_kids-offset_bounds-kids-place g t c =
     let p : i < length ts = w.place in
     search (rules, arith, p)
 
-pub step::step_kids-bounds-kids-place : goal.step::step_kids-bounds-kids-place
-step::step_kids-bounds-kids-place g t c =
+pub steps::step_kids-bounds-kids-place : goal.steps::step_kids-bounds-kids-place
+steps::step_kids-bounds-kids-place g t c =
     let u : Active = g.O.Order.active c.args.order.now in
     let y = c.args.counts.now in
     let ts = c.args.kids.now in
@@ -156,8 +156,8 @@ step::step_kids-bounds-kids-place g t c =
     found u ts (asked_of y) (ready_of y) (kids_in y) c.requires.fresh i c.find-place.result.1 c.args.k c.find-place.ensures.within c.find-place.ensures.place c.find-place.ensures.inside c.requires.there in
     w.place
 
-pub step::step_kids-index_mut-requires : goal.step::step_kids-index_mut-requires
-step::step_kids-index_mut-requires g t c =
+pub steps::step_kids-index_mut-requires : goal.steps::step_kids-index_mut-requires
+steps::step_kids-index_mut-requires g t c =
     let u : Active = g.O.Order.active c.args.order.now in
     let y = c.args.counts.now in
     let ts = c.args.kids.now in
@@ -166,8 +166,8 @@ step::step_kids-index_mut-requires g t c =
     found u ts (asked_of y) (ready_of y) (kids_in y) c.requires.fresh i c.find-place.result.1 c.args.k c.find-place.ensures.within c.find-place.ensures.place c.find-place.ensures.inside c.requires.there in
     omega (arith, w.counts, (out-Counts y).kids.ok.0)
 
-pub step::step_kids-step-requires : goal.step::step_kids-step-requires
-step::step_kids-step-requires g t c κs within =
+pub steps::step_kids-step-requires : goal.steps::step_kids-step-requires
+steps::step_kids-step-requires g t c κs within =
     let u : Active = g.O.Order.active c.args.order.now in
     let y = c.args.counts.now in
     let ts = c.args.kids.now in
@@ -186,8 +186,8 @@ step::step_kids-step-requires g t c κs within =
     let reserved : task_reserved x ≤ counted_bytes c.args.ctx.now = at_within (counted_bytes c.args.ctx.now) ts i x w.place is c.requires.reserved in
     search (rules, arith, o, falls, there, may, fresh, reserved)
 
-pub step::step_kids-returns-in-Ok-clause-moved : goal.step::step_kids-returns-in-Ok-clause-moved
-step::step_kids-returns-in-Ok-clause-moved g t c =
+pub steps::step_kids-returns-in-Ok-clause-moved : goal.steps::step_kids-returns-in-Ok-clause-moved
+steps::step_kids-returns-in-Ok-clause-moved g t c =
     let u : Active = g.O.Order.active c.args.order.now in
     let y = c.args.counts.now in
     let ts = c.args.kids.now in
@@ -196,10 +196,10 @@ step::step_kids-returns-in-Ok-clause-moved g t c =
     found u ts (asked_of y) (ready_of y) (kids_in y) c.requires.fresh i c.find-place.result.1 c.args.k c.find-place.ensures.within c.find-place.ensures.place c.find-place.ensures.inside c.requires.there in
     let x : Task = get_or ts i c.index-kids-place.result in
     let is : get_or ts i x ≡ x = ap (λ z. get_or ts i z) (sym c.index-kids-place.is) in
-    at_moved task_stock u (g.O.Order.active c.step.new.order) ts i x c.step.new.self w.place is c.requires.owned c.step.ensures.moved
+    at_moved task_stock u (g.O.Order.active c.step.new.order) ts i x c.step.new.task w.place is c.requires.owned c.step.ensures.moved
 
-pub step::step_kids-returns-in-Err-clause-moved : goal.step::step_kids-returns-in-Err-clause-moved
-step::step_kids-returns-in-Err-clause-moved g t c =
+pub steps::step_kids-returns-in-Err-clause-moved : goal.steps::step_kids-returns-in-Err-clause-moved
+steps::step_kids-returns-in-Err-clause-moved g t c =
     let u : Active = g.O.Order.active c.args.order.now in
     let y = c.args.counts.now in
     let ts = c.args.kids.now in
@@ -208,10 +208,10 @@ step::step_kids-returns-in-Err-clause-moved g t c =
     found u ts (asked_of y) (ready_of y) (kids_in y) c.requires.fresh i c.find-place.result.1 c.args.k c.find-place.ensures.within c.find-place.ensures.place c.find-place.ensures.inside c.requires.there in
     let x : Task = get_or ts i c.index-kids-place.result in
     let is : get_or ts i x ≡ x = ap (λ z. get_or ts i z) (sym c.index-kids-place.is) in
-    at_moved task_stock u (g.O.Order.active c.step.new.order) ts i x c.step.new.self w.place is c.requires.owned c.step.ensures.moved
+    at_moved task_stock u (g.O.Order.active c.step.new.order) ts i x c.step.new.task w.place is c.requires.owned c.step.ensures.moved
 
-pub step::step_kids-returns-in-Ok-clause-done : goal.step::step_kids-returns-in-Ok-clause-done
-step::step_kids-returns-in-Ok-clause-done g t c =
+pub steps::step_kids-returns-in-Ok-clause-done : goal.steps::step_kids-returns-in-Ok-clause-done
+steps::step_kids-returns-in-Ok-clause-done g t c =
     let u : Active = g.O.Order.active c.args.order.now in
     let y = c.args.counts.now in
     let ts = c.args.kids.now in
@@ -220,22 +220,22 @@ step::step_kids-returns-in-Ok-clause-done g t c =
     found u ts (asked_of y) (ready_of y) (kids_in y) c.requires.fresh i c.find-place.result.1 c.args.k c.find-place.ensures.within c.find-place.ensures.place c.find-place.ensures.inside c.requires.there in
     let x : Task = get_or ts i c.index-kids-place.result in
     let is : get_or ts i x ≡ x = ap (λ z. get_or ts i z) (sym c.index-kids-place.is) in
-    kid_done c.args.ctx.now (g.C.CompressorPlugin.image (g.C.CompressorPlugin.kind c.args.compressor.now)) u (g.O.Order.outlet c.args.order.now) (g.O.Order.outlet c.step.new.order) (Ok c.in-Ok.did) ts i x c.args.k c.find-place.result.1 w.passed w.place is c.step.new.self c.in-Ok.ensures.done
+    kid_done c.args.ctx.now (g.C.CompressorPlugin.image (g.C.CompressorPlugin.kind c.args.compressor.now)) u (g.O.Order.outlet c.args.order.now) (g.O.Order.outlet c.step.new.order) (Ok c.in-Ok.did) ts i x c.args.k c.find-place.result.1 w.passed w.place is c.step.new.task c.in-Ok.ensures.done
 
-pub step::step_kids-returns-in-Ok-clause-known : goal.step::step_kids-returns-in-Ok-clause-known
-step::step_kids-returns-in-Ok-clause-known g t c =
+pub steps::step_kids-returns-in-Ok-clause-known : goal.steps::step_kids-returns-in-Ok-clause-known
+steps::step_kids-returns-in-Ok-clause-known g t c =
     let u : Active = g.O.Order.active c.args.order.now in
     let y = c.args.counts.now in
     let ts = c.args.kids.now in
     let i = c.find-place.result.0 in
-    let t : Task = c.step.new.self in
+    let t : Task = c.step.new.task in
     let parts : Counts-F Counts = record { ready = ready_of y; asked = (out-Counts y).asked; kids = with_item (out-Counts y).kids i c.step.new.counts } in
     c.mark.ensures (row (set ts i t))
     (subst (λ (z : Counts-F Counts). KnowsFrom (i ∷ z.asked.items) 0 z.ready z.kids.items (row (set ts i t))) (sym (counts_roll parts))
     (stepped_known u ts c.step.new.counts i t (ready_of y) (kids_in y) parts.kids.items (asked_of y) c.requires.fresh c.in-Ok.ensures.known refl))
 
-pub step::step_kids-returns-in-Err-clause-refused : goal.step::step_kids-returns-in-Err-clause-refused
-step::step_kids-returns-in-Err-clause-refused g t c =
+pub steps::step_kids-returns-in-Err-clause-refused : goal.steps::step_kids-returns-in-Err-clause-refused
+steps::step_kids-returns-in-Err-clause-refused g t c =
     let u : Active = g.O.Order.active c.args.order.now in
     let y = c.args.counts.now in
     let ts = c.args.kids.now in
@@ -246,8 +246,8 @@ step::step_kids-returns-in-Err-clause-refused g t c =
     let is : get_or ts i x ≡ x = ap (λ z. get_or ts i z) (sym c.index-kids-place.is) in
     kid_fails c.args.ctx.now (g.C.CompressorPlugin.image (g.C.CompressorPlugin.kind c.args.compressor.now)) u (g.O.Order.outlet c.args.order.now) (g.O.Order.outlet c.step.new.order) (Err c.in-Err.error) ts i x c.args.k c.find-place.result.1 w.passed w.place is c.in-Err.ensures.refused
 
-pub step::step_kids-returns-in-Ok-clause-tracked : goal.step::step_kids-returns-in-Ok-clause-tracked
-step::step_kids-returns-in-Ok-clause-tracked g t c =
+pub steps::step_kids-returns-in-Ok-clause-tracked : goal.steps::step_kids-returns-in-Ok-clause-tracked
+steps::step_kids-returns-in-Ok-clause-tracked g t c =
     let u : Active = g.O.Order.active c.args.order.now in
     let y = c.args.counts.now in
     let ts = c.args.kids.now in
@@ -256,10 +256,10 @@ step::step_kids-returns-in-Ok-clause-tracked g t c =
     found u ts (asked_of y) (ready_of y) (kids_in y) c.requires.fresh i c.find-place.result.1 c.args.k c.find-place.ensures.within c.find-place.ensures.place c.find-place.ensures.inside c.requires.there in
     let x : Task = get_or ts i c.index-kids-place.result in
     let is : get_or ts i x ≡ x = ap (λ z. get_or ts i z) (sym c.index-kids-place.is) in
-    at_paid c.args.ctx.now c.step.new.ctx ts i x c.step.new.self w.place is c.step.ensures.tracked
+    at_paid c.args.ctx.now c.step.new.ctx ts i x c.step.new.task w.place is c.step.ensures.tracked
 
-pub step::step_kids-returns-in-Err-clause-tracked : goal.step::step_kids-returns-in-Err-clause-tracked
-step::step_kids-returns-in-Err-clause-tracked g t c =
+pub steps::step_kids-returns-in-Err-clause-tracked : goal.steps::step_kids-returns-in-Err-clause-tracked
+steps::step_kids-returns-in-Err-clause-tracked g t c =
     let u : Active = g.O.Order.active c.args.order.now in
     let y = c.args.counts.now in
     let ts = c.args.kids.now in
@@ -268,4 +268,4 @@ step::step_kids-returns-in-Err-clause-tracked g t c =
     found u ts (asked_of y) (ready_of y) (kids_in y) c.requires.fresh i c.find-place.result.1 c.args.k c.find-place.ensures.within c.find-place.ensures.place c.find-place.ensures.inside c.requires.there in
     let x : Task = get_or ts i c.index-kids-place.result in
     let is : get_or ts i x ≡ x = ap (λ z. get_or ts i z) (sym c.index-kids-place.is) in
-    at_paid c.args.ctx.now c.step.new.ctx ts i x c.step.new.self w.place is c.step.ensures.tracked
+    at_paid c.args.ctx.now c.step.new.ctx ts i x c.step.new.task w.place is c.step.ensures.tracked

@@ -1,17 +1,5 @@
-use Rattle.vx_machine_view.proofs.Placing.{steps_are_ready, own_place, kid_place, rest_place, whole_is_ready, source_place, root_place}
+use Rattle.vx_machine_view.proofs.Placing.{whole_is_ready, source_place, root_place}
 use Rattle.vx_machine_view.proofs.places.Goals as goal
-
-pub returns-clause-ready : goal.returns-clause-ready
-returns-clause-ready c = steps_are_ready
-
-pub returns-clause-own : goal.returns-clause-own
-returns-clause-own c = own_place
-
-pub returns-clause-kid : goal.returns-clause-kid
-returns-clause-kid c = kid_place
-
-pub returns-clause-rest : goal.returns-clause-rest
-returns-clause-rest c = rest_place
 
 pub returns-clause-whole : goal.returns-clause-whole
 returns-clause-whole c = whole_is_ready

@@ -1,5 +1,5 @@
 use Rattle.std.proofs.Common.{◌≡◌, ◌+◌, ◌<◌, ◌≤◌, ◌++◌, [], ◌∷◌, length, sym, subst, arith}
-use Rattle.vx_machine_view.specs.Acts.{count}
+use Rattle.vx_machine_state.specs.Acts.{count}
 use Rattle.vx_kept.specs.Kept.{KnowsFrom}
 use Rattle.vx_kept.proofs.Parts.{knows_few}
 use Rattle.vx_kept.proofs.Keeping.{knows_more, push_leaves, front_within}

@@ -1,6 +1,6 @@
 use Rattle.std.proofs.Common.{◌≡◌, ◌-◌, length}
-use Rattle.vx_machine_view.specs.State.{Tasks}
-use Rattle.vx_machine_view.specs.Acts.{count}
+use Rattle.vx_machine_state.specs.State.{Tasks}
+use Rattle.vx_machine_state.specs.Acts.{count}
 use Rattle.vx_kept.specs.Kept.{KnowsFrom}
 use Rattle.vx_kept.proofs.counts.top_up.Given as goal
 

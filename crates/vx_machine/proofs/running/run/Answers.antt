@@ -7,19 +7,19 @@ use Rattle.vx_machine_ids.proofs.MoveLaws.{moved_none, moved_then, owned_now}
 use Rattle.vx_machine_tasks.specs.Pairs.{task_pairs}
 use Rattle.vx_machine.specs.Whole.{machine_stock}
 use Rattle.vx_machine_tasks.proofs.PairSteps.{all_may}
-use Rattle.vx_machine_tasks.proofs.ReservedSteps.{task_view}
+use Rattle.vx_machine_task.proofs.ReservedSteps.{task_view}
 use Rattle.vx_machine_ids.specs.Balance.{Exact}
 use Rattle.vx_fault.specs.Faults.{FaultsTold}
 use Rattle.vx_write_answer.specs.Causes.{is_sink_fault}
 use Rattle.vx_machine_nodes.specs.Calls.{reads_action, append_action, call_action}
 use Rattle.vx_machine.specs.Calls.{reads_in, appends_in, calls_in, reads_at}
-use Rattle.vx_machine_nodes.specs.Context.{setting_of}
-use Rattle.vx_machine_nodes.specs.Outcome.{Kept}
+use Rattle.vx_machine_node.specs.Context.{setting_of}
+use Rattle.vx_machine_node.specs.Outcome.{Kept}
 use Rattle.vx_sink.specs.ContextView.{counted as counted_bytes}
 use Rattle.vx_machine.specs.Run.{at, Ran, picked_at, tracker_by}
-use Rattle.vx_machine_tasks.specs.View.{row}
+use Rattle.vx_machine_task.specs.View.{row}
 use Rattle.vx_machine.specs.View.{phase_of, machine_of}
-use Rattle.vx_machine_tasks.specs.declared.task.Task.{out-Task}
+use Rattle.vx_machine_task.specs.declared.task.Task.{out-Task}
 use Rattle.vx_machine.specs.Whole.{machine_ready}
 use Rattle.vx_machine.proofs.HeldViews.{exact_then}
 use Rattle.vx_machine.proofs.RunCalls.{Answered, none_called, then_answered, reads_once, appends_once, calls_once, reads_more, appends_more, calls_more, ended, source_ends, sink_ends, press_ends, misfit_passed}

@@ -3,11 +3,11 @@ use Rattle.vx_machine_ids.specs.Balance.{Owned, Moved, Exact}
 use Rattle.vx_machine.specs.Calls.{reads_in, appends_in, calls_in}
 use Rattle.vx_machine.specs.Run.{at, Ran}
 use Rattle.vx_kept.specs.Kept.{Knows}
-use Rattle.vx_machine_tasks.specs.declared.task.Task.{out-Task}
-use Rattle.vx_machine_tasks.specs.View.{row}
+use Rattle.vx_machine_task.specs.declared.task.Task.{out-Task}
+use Rattle.vx_machine_task.specs.View.{row}
 use Rattle.vx_machine.specs.View.{machine_of}
 use Rattle.vx_sink.specs.ContextView.{counted}
-use Rattle.vx_machine_nodes.specs.Ledger.{told_by}
+use Rattle.vx_machine_node.specs.Ledger.{told_by}
 use Rattle.vx_machine.specs.Whole.{machine_stock, machine_reserved}
 use Rattle.vx_machine.proofs.RunCalls.{Answered}
 use Rattle.vx_machine.proofs.running.run.Given as goal

@@ -1,8 +1,8 @@
 use Rattle.std.proofs.Common.{ap, inl, true}
-use Rattle.vx_machine_view.specs.State.{no_tasks}
+use Rattle.vx_machine_state.specs.State.{no_tasks}
 use Rattle.vx_machine.specs.Calls.{reads_at}
-use Rattle.vx_machine_nodes.specs.View.{item_of}
-use Rattle.vx_machine_tasks.specs.View.{task_row}
+use Rattle.vx_machine_node.specs.View.{item_of}
+use Rattle.vx_machine_task.specs.View.{task_row}
 use Rattle.vx_machine.specs.View.{phase_of}
 use Rattle.vx_machine_nodes.proofs.CallSteps.{unasked_self}
 use Rattle.vx_machine.proofs.CallSteps.{told_as}

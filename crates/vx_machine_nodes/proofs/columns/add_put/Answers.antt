@@ -1,6 +1,6 @@
 use Rattle.std.proofs.Common.{◌≡◌, ◌+◌, refl, ap, arith}
-use Rattle.vx_machine_nodes.specs.Ledger.{dues_reserved}
-use Rattle.vx_machine_nodes.proofs.DueSteps.{put_stock}
+use Rattle.vx_machine_node.specs.Ledger.{dues_reserved}
+use Rattle.vx_machine_node.proofs.DueSteps.{put_stock}
 use Rattle.vx_machine_nodes.proofs.PutSteps.{put_last}
 use Rattle.vx_machine_nodes.proofs.columns.add_put.Goals as goal
 

@@ -1,9 +1,9 @@
 use Rattle.std.proofs.Common.{◌≡◌, ◌∙◌, vec_len, rules, arith, sym, ◌++◌}
 use Rattle.vx_machine_ids.specs.Stock.{both, all_ids}
-use Rattle.vx_machine_nodes.specs.Stocks.{dues_stock}
-use Rattle.vx_machine_nodes.proofs.DueSteps.{all_put}
-use Rattle.vx_machine_view.specs.Acts.{puts}
-use Rattle.vx_machine_nodes.specs.View.{todo_of}
+use Rattle.vx_machine_node.specs.Stocks.{dues_stock}
+use Rattle.vx_machine_node.proofs.DueSteps.{all_put}
+use Rattle.vx_machine_state.specs.Acts.{puts}
+use Rattle.vx_machine_node.specs.View.{todo_of}
 use Rattle.vx_machine_nodes.proofs.PutSteps.{puts_less, puts_all}
 use Rattle.vx_machine_nodes.proofs.columns.add_puts.Goals as goal
 

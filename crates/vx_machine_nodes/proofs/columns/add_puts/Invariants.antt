@@ -1,11 +1,11 @@
 use Rattle.std.proofs.Common.{◌≡◌, ◌≤◌, ◌+◌, ◌++◌, ℕ, List, vec_len}
 use Rattle.vx_order.specs.Ids.{children}
-use Rattle.vx_machine_view.specs.Acts.{puts}
-use Rattle.vx_machine_nodes.specs.View.{todo_of}
+use Rattle.vx_machine_state.specs.Acts.{puts}
+use Rattle.vx_machine_node.specs.View.{todo_of}
 use Rattle.std.specs.VecDeque.{deque_len, deque_capacity}
 use Rattle.vx_machine_ids.specs.Stock.{both, all_ids}
-use Rattle.vx_machine_nodes.specs.Ledger.{dues_reserved}
-use Rattle.vx_machine_nodes.specs.Stocks.{dues_stock}
+use Rattle.vx_machine_node.specs.Ledger.{dues_reserved}
+use Rattle.vx_machine_node.specs.Stocks.{dues_stock}
 use Rattle.vx_machine_nodes.proofs.columns.add_puts.Given as goal
 
 abbrev pub invariant-puts : goal.invariant-puts

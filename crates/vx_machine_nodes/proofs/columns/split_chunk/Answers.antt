@@ -5,7 +5,7 @@ use Rattle.vx_machine_nodes.proofs.CauseSteps.{split_may}
 use Rattle.std.specs.Arc.{arc_value}
 use Rattle.vx_model.specs.Ty.{ty_eq}
 use Rattle.vx_model.specs.ChunkData.{piece_type, cells}
-use Rattle.vx_machine_view.specs.Acts.{column_count}
+use Rattle.vx_machine_state.specs.Acts.{column_count}
 use Rattle.vx_machine_nodes.specs.Acting.{SplitRefused}
 use Rattle.vx_machine_nodes.proofs.RefusalSteps.{by_rows}
 use Rattle.vx_machine_nodes.proofs.SplitSteps.{columns_are, columns_counted, typed_eq, misfit_eq, split_memory}

@@ -2,11 +2,11 @@ use Rattle.std.proofs.Common.{◌++◌, ap, sym, subst, ◌∙◌}
 use Rattle.std.specs.Arc.{arc_value}
 use Rattle.vx_model.specs.TyView.{ty}
 use Rattle.vx_order.specs.Ids.{children}
-use Rattle.vx_machine_view.specs.State.{by_column}
-use Rattle.vx_machine_view.specs.Acts.{puts}
+use Rattle.vx_machine_state.specs.State.{by_column}
+use Rattle.vx_machine_state.specs.Acts.{puts}
 use Rattle.vx_machine_nodes.specs.Acting.{taken, TakeRefused}
-use Rattle.vx_machine_nodes.specs.Ledger.{dues_reserved}
-use Rattle.vx_machine_nodes.specs.View.{item_of, todo_of}
+use Rattle.vx_machine_node.specs.Ledger.{dues_reserved}
+use Rattle.vx_machine_node.specs.View.{item_of, todo_of}
 use Rattle.vx_machine_nodes.proofs.ActCauses.{order_memory}
 use Rattle.vx_machine_nodes.proofs.TakeShows.{columns_took, columns_why}
 use Rattle.vx_machine_nodes.proofs.columns.take_columns.Goals as goal

@@ -5,7 +5,7 @@ use Rattle.vx_react.specs.Reactor.{Output}
 use Rattle.vx_runs.specs.CutterData.{held_at}
 use Rattle.vx_machine_turns.specs.Dict.{rest_eof}
 use Rattle.vx_machine_nodes.specs.Runs.{behind_all, CutRefused}
-use Rattle.vx_machine_nodes.specs.View.{runs_in}
+use Rattle.vx_machine_node.specs.View.{runs_in}
 use Rattle.vx_machine_nodes.proofs.RunTakes.{number_small, outputs_follow, outputs_rows}
 use Rattle.vx_machine_nodes.proofs.cuts.cut_newest.Goals as goal
 

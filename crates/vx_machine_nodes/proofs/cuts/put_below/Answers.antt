@@ -2,7 +2,7 @@ use Rattle.std.proofs.Common.{◌+◌, ◌≡◌, length, subst, arith, []}
 use Rattle.std.specs.Prelude.{IfErr}
 use Rattle.vx_machine_turns.specs.Dict.{rest_eof}
 use Rattle.vx_machine_nodes.specs.Runs.{behind_all, CutRefused}
-use Rattle.vx_machine_nodes.specs.View.{runs_in}
+use Rattle.vx_machine_node.specs.View.{runs_in}
 use Rattle.vx_machine_nodes.proofs.cuts.put_below.Goals as goal
 
 pub returns-in-Ok-clause-refused : goal.returns-in-Ok-clause-refused

@@ -1,7 +1,7 @@
 use Rattle.std.proofs.Common.{refl, sym, subst}
 use Rattle.vx_machine_ids.specs.Stock.{end_stock}
 use Rattle.vx_machine_nodes.specs.Runs.{CutRefused}
-use Rattle.vx_machine_nodes.specs.Stocks.{item_stock, run_stock}
+use Rattle.vx_machine_node.specs.Stocks.{item_stock, run_stock}
 use Rattle.vx_machine_nodes.proofs.RunSteps.{put_moved, open_moved, put_reserved, began_eof}
 use Rattle.vx_machine_nodes.proofs.cuts.put_codes.Goals as goal
 

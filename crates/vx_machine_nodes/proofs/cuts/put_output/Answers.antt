@@ -7,7 +7,7 @@ use Rattle.vx_model.specs.CellData.{CellData}
 use Rattle.vx_react.specs.declared.place.Place.TheVariants.{Codes, Values}
 use Rattle.vx_machine_turns.specs.Dict.{rest_eof}
 use Rattle.vx_machine_nodes.specs.Runs.{behind, next_at, CutRefused}
-use Rattle.vx_machine_nodes.specs.View.{coder_in, runs_in, todo_of}
+use Rattle.vx_machine_node.specs.View.{coder_in, runs_in, todo_of}
 use Rattle.vx_machine_nodes.proofs.RunSteps.{full_below, at_place, on_ok}
 use Rattle.vx_machine_nodes.proofs.cuts.put_output.Goals as goal
 

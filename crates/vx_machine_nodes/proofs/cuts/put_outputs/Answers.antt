@@ -8,8 +8,8 @@ use Rattle.vx_react.specs.Reactor.{Output}
 use Rattle.vx_machine_ids.specs.Stock.{Stock, both, end_stock}
 use Rattle.vx_machine_ids.proofs.MoveLaws.{moved_then, owned_now}
 use Rattle.vx_machine_nodes.specs.Runs.{behind_all, nexts_at, are_runs}
-use Rattle.vx_machine_nodes.specs.Stocks.{dues_stock}
-use Rattle.vx_machine_nodes.specs.View.{coder_in, runs_in, todo_of}
+use Rattle.vx_machine_node.specs.Stocks.{dues_stock}
+use Rattle.vx_machine_node.specs.View.{coder_in, runs_in, todo_of}
 use Rattle.vx_machine_nodes.proofs.RunSteps.{begun_now, rows_now, first_follows, rest_follow, first_few, late_refusal, one_nexts}
 use Rattle.vx_machine_nodes.proofs.cuts.put_outputs.Goals as goal
 

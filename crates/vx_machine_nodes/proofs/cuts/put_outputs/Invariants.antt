@@ -4,10 +4,10 @@ use Rattle.std.specs.Vec.Iter.{into_iter_items}
 use Rattle.vx_model.specs.CellData.{CellData}
 use Rattle.vx_machine_ids.specs.Stock.{both, end_stock}
 use Rattle.vx_machine_ids.specs.Balance.{Owned, Moved}
-use Rattle.vx_machine_nodes.specs.Ledger.{dues_reserved}
+use Rattle.vx_machine_node.specs.Ledger.{dues_reserved}
 use Rattle.vx_machine_nodes.specs.Runs.{behind_all, nexts_at, are_runs, all_rows}
-use Rattle.vx_machine_nodes.specs.Stocks.{dues_stock}
-use Rattle.vx_machine_nodes.specs.View.{coder_in, runs_in, todo_of}
+use Rattle.vx_machine_node.specs.Stocks.{dues_stock}
+use Rattle.vx_machine_node.specs.View.{coder_in, runs_in, todo_of}
 use Rattle.vx_machine_nodes.proofs.cuts.put_outputs.Given as goal
 
 abbrev pub invariant-outputs : goal.invariant-outputs

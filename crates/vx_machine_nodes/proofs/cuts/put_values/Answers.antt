@@ -1,5 +1,5 @@
 use Rattle.std.proofs.Common.{refl}
-use Rattle.vx_machine_nodes.specs.Stocks.{item_stock}
+use Rattle.vx_machine_node.specs.Stocks.{item_stock}
 use Rattle.vx_machine_nodes.proofs.RunSteps.{last_moved, put_reserved}
 use Rattle.vx_machine_nodes.proofs.cuts.put_values.Goals as goal
 

@@ -1,10 +1,10 @@
 use Rattle.std.proofs.Common.{ℕ, List, refl, ap, ◌∙◌}
 use Rattle.std.specs.Arc.{arc_value}
 use Rattle.vx_model.specs.TyView.{ty}
-use Rattle.vx_machine_view.specs.State.{join_kids, fold_runs}
+use Rattle.vx_machine_state.specs.State.{join_kids, fold_runs}
 use Rattle.vx_machine_ids.specs.Stock.{end_stock}
-use Rattle.vx_machine_nodes.specs.Stocks.{item_stock}
-use Rattle.vx_machine_nodes.specs.View.{todo_of}
+use Rattle.vx_machine_node.specs.Stocks.{item_stock}
+use Rattle.vx_machine_node.specs.View.{todo_of}
 use Rattle.vx_machine_nodes.proofs.RunSteps.{pushed, put_reserved}
 use Rattle.vx_machine_nodes.proofs.RunTakes.{runs_ended, end_why, end_moved}
 use Rattle.vx_machine_nodes.proofs.dict.end_runs.Goals as goal

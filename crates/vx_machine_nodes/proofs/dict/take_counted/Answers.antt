@@ -2,11 +2,11 @@ use Rattle.std.proofs.Common.{◌++◌, false, List, refl, sym, ap, subst, ◌�
 use Rattle.std.specs.Arc.{arc_value}
 use Rattle.vx_model.specs.CellData.{CellData}
 use Rattle.vx_runs.specs.CutterData.{CutterData, gives_at}
-use Rattle.vx_machine_view.specs.State.{Next, by_run}
-use Rattle.vx_machine_nodes.specs.declared.node.Local.TheVariants.{Runs}
+use Rattle.vx_machine_state.specs.State.{Next, by_run}
+use Rattle.vx_machine_node.specs.declared.node.Local.TheVariants.{Runs}
 use Rattle.vx_machine_nodes.specs.Acting.{taken, Took}
 use Rattle.vx_machine_nodes.specs.Runs.{nexts_at}
-use Rattle.vx_machine_nodes.specs.View.{coder_in, runs_in, item_of, todo_of, mind_of}
+use Rattle.vx_machine_node.specs.View.{coder_in, runs_in, item_of, todo_of, mind_of}
 use Rattle.vx_machine_nodes.proofs.RunTakes.{runs_took, runs_why, number_more}
 use Rattle.vx_machine_nodes.proofs.dict.take_counted.Goals as goal
 

@@ -5,7 +5,7 @@ use Rattle.vx_model.specs.ChunkData.{cells}
 use Rattle.vx_model.specs.TyView.{ty}
 use Rattle.vx_segment_writer.specs.Segment.{encode}
 use Rattle.vx_sink.specs.ContextView.{listed}
-use Rattle.vx_machine_nodes.proofs.Fitting.{then_fit, one_fits}
+use Rattle.vx_machine_node.proofs.Fitting.{then_fit, one_fits}
 use Rattle.vx_machine_nodes.proofs.TakeShows.{store_refused}
 use Rattle.vx_machine_nodes.proofs.flat.store.Goals as goal
 

@@ -4,7 +4,7 @@ use Rattle.vx_order.specs.Answers.{active_after}
 use Rattle.vx_machine_ids.specs.Stock.{none, id_stock}
 use Rattle.vx_machine_ids.specs.Balance.{Moved}
 use Rattle.vx_machine_ids.proofs.CallLaws.{owned_active, released_moved}
-use Rattle.vx_machine_nodes.specs.Causes.{AppendMay}
+use Rattle.vx_machine_node.specs.Causes.{AppendMay}
 use Rattle.vx_machine_nodes.proofs.CallSteps.{written_called, refused_stops}
 use Rattle.vx_machine_nodes.proofs.CauseSteps.{refused_may}
 use Rattle.vx_machine_nodes.proofs.WriteSteps.{written_told, then_kept, refused_why}

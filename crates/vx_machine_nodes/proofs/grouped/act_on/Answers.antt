@@ -1,10 +1,10 @@
 use Rattle.std.proofs.Common.{◌<◌, ◌^◌, Option, false, refl, sym, ap, subst, ◌∙◌}
-use Rattle.vx_machine_nodes.specs.declared.item.Item.{Item}
+use Rattle.vx_machine_node.specs.declared.item.Item.{Item}
 use Rattle.vx_machine_nodes.specs.Acting.{ListRefused}
-use Rattle.vx_machine_nodes.specs.Causes.{MayCome}
-use Rattle.vx_machine_nodes.specs.Regrouped.{misfit_in, sizes_in, acted_numbers, ActedOn}
-use Rattle.vx_machine_nodes.specs.Sizes.{sum_of}
-use Rattle.vx_machine_nodes.specs.View.{todo_of}
+use Rattle.vx_machine_node.specs.Causes.{MayCome}
+use Rattle.vx_machine_node.specs.Regrouped.{misfit_in, sizes_in, acted_numbers, ActedOn}
+use Rattle.vx_machine_node.specs.Sizes.{sum_of}
+use Rattle.vx_machine_node.specs.View.{todo_of}
 use Rattle.vx_machine_nodes.proofs.GroupActs.{takes_fitting, acted_on, acted_cause}
 use Rattle.vx_machine_nodes.proofs.grouped.act_on.Goals as goal
 

@@ -1,6 +1,6 @@
 use Rattle.std.proofs.Common.{◌<◌, [], ◌∷◌, length, refl, ap, arith, length-append}
 use Rattle.std.specs.VecDeque.{deque_len}
-use Rattle.vx_machine_nodes.proofs.DueSteps.{put_stock}
+use Rattle.vx_machine_node.proofs.DueSteps.{put_stock}
 use Rattle.vx_machine_nodes.proofs.GroupHands.{hand_balance, last_reserved, hand_last}
 use Rattle.vx_machine_nodes.proofs.grouped.add_hand.Goals as goal
 

@@ -3,12 +3,12 @@ use Rattle.std.proofs.lemmas.List.{map-append}
 use Rattle.vx_model.specs.ChunkData.{held}
 use Rattle.vx_rules.specs.Regroup.{ranked}
 use Rattle.vx_machine_ids.specs.Stock.{both, all_ids}
-use Rattle.vx_machine_view.specs.Acts.{hand_all}
-use Rattle.vx_machine_nodes.specs.Stocks.{dues_stock}
-use Rattle.vx_machine_nodes.specs.View.{todo_of}
-use Rattle.vx_machine_nodes.proofs.DueSteps.{all_put}
+use Rattle.vx_machine_state.specs.Acts.{hand_all}
+use Rattle.vx_machine_node.specs.Stocks.{dues_stock}
+use Rattle.vx_machine_node.specs.View.{todo_of}
+use Rattle.vx_machine_node.proofs.DueSteps.{all_put}
 use Rattle.vx_machine_nodes.proofs.GroupHands.{hands_less, hands_all}
-use Rattle.vx_machine_nodes.proofs.ListParts.{none_is}
+use Rattle.vx_machine_node.proofs.ListParts.{none_is}
 use Rattle.vx_machine_nodes.proofs.grouped.add_hands.Goals as goal
 
 pub hands-init : goal.hands-init

@@ -4,11 +4,11 @@ use Rattle.vx_model.specs.ChunkData.{held}
 use Rattle.vx_order.specs.Ids.{children}
 use Rattle.vx_rules.specs.Regroup.{ranked}
 use Rattle.vx_machine_ids.specs.Stock.{both, all_ids}
-use Rattle.vx_machine_view.specs.Acts.{hand_all}
-use Rattle.vx_machine_nodes.specs.Ledger.{dues_reserved}
-use Rattle.vx_machine_nodes.specs.Sizes.{sum_of}
-use Rattle.vx_machine_nodes.specs.Stocks.{dues_stock}
-use Rattle.vx_machine_nodes.specs.View.{todo_of}
+use Rattle.vx_machine_state.specs.Acts.{hand_all}
+use Rattle.vx_machine_node.specs.Ledger.{dues_reserved}
+use Rattle.vx_machine_node.specs.Sizes.{sum_of}
+use Rattle.vx_machine_node.specs.Stocks.{dues_stock}
+use Rattle.vx_machine_node.specs.View.{todo_of}
 use Rattle.vx_machine_nodes.proofs.grouped.add_hands.Given as goal
 
 abbrev pub invariant-hands : goal.invariant-hands

@@ -3,16 +3,16 @@ use Rattle.std.proofs.lemmas.List.{map_push}
 use Rattle.vx_machine_ids.specs.Stock.{none, both}
 use Rattle.vx_machine_ids.proofs.MoveLaws.{moved_as}
 use Rattle.vx_machine_ids.proofs.Stocks.{none_both}
-use Rattle.vx_machine_view.specs.State.{shut_kids}
-use Rattle.vx_machine_nodes.specs.declared.item.Due.TheVariants.{Close}
-use Rattle.vx_machine_nodes.specs.Ledger.{dues_reserved}
-use Rattle.vx_machine_nodes.specs.Regrouped.{rest_hands}
-use Rattle.vx_machine_nodes.specs.Sizes.{sum_of}
-use Rattle.vx_machine_nodes.specs.Stocks.{dues_stock, node_stock}
-use Rattle.vx_machine_nodes.specs.View.{next_of, todo_of}
-use Rattle.vx_machine_nodes.proofs.DueSteps.{one_free}
+use Rattle.vx_machine_state.specs.State.{shut_kids}
+use Rattle.vx_machine_node.specs.declared.item.Due.TheVariants.{Close}
+use Rattle.vx_machine_node.specs.Ledger.{dues_reserved}
+use Rattle.vx_machine_node.specs.Regrouped.{rest_hands}
+use Rattle.vx_machine_node.specs.Sizes.{sum_of}
+use Rattle.vx_machine_node.specs.Stocks.{dues_stock, node_stock}
+use Rattle.vx_machine_node.specs.View.{next_of, todo_of}
+use Rattle.vx_machine_node.proofs.DueSteps.{one_free}
 use Rattle.vx_machine_nodes.proofs.GroupEnds.{group_ended}
-use Rattle.vx_machine_nodes.proofs.ReservedSteps.{dues_push}
+use Rattle.vx_machine_node.proofs.ReservedSteps.{dues_push}
 use Rattle.vx_machine_nodes.proofs.grouped.end_grouped.Goals as goal
 
 pub returns-in_ok-reserve-in-Ok-clause-moved : goal.returns-in_ok-reserve-in-Ok-clause-moved

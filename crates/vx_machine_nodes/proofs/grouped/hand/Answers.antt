@@ -3,8 +3,8 @@ use Rattle.std.proofs.lemmas.List.{length-map}
 use Rattle.vx_model.specs.ChunkData.{held}
 use Rattle.vx_order.specs.Ids.{children}
 use Rattle.vx_rules.specs.Regroup.{ranked}
-use Rattle.vx_machine_view.specs.Acts.{hand_all}
-use Rattle.vx_machine_nodes.specs.View.{todo_of}
+use Rattle.vx_machine_state.specs.Acts.{hand_all}
+use Rattle.vx_machine_node.specs.View.{todo_of}
 use Rattle.vx_machine_nodes.proofs.grouped.hand.Goals as goal
 
 pub returns-in-Ok-take_children-clause-weighed : goal.returns-in-Ok-take_children-clause-weighed

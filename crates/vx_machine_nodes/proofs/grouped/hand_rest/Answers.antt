@@ -1,10 +1,10 @@
 use Rattle.std.proofs.Common.{◌++◌, Option, false, sym, ap, subst, ◌∙◌, arith}
 use Rattle.std.proofs.lemmas.Result.{on_ok_weaker}
-use Rattle.vx_machine_nodes.specs.declared.item.Item.{Item}
+use Rattle.vx_machine_node.specs.declared.item.Item.{Item}
 use Rattle.vx_machine_nodes.specs.Acting.{ListRefused}
-use Rattle.vx_machine_nodes.specs.Causes.{MayCome}
-use Rattle.vx_machine_nodes.specs.Regrouped.{misfit_in, sizes_in, rows_counted, acted_numbers, rest_hands, RestFits}
-use Rattle.vx_machine_nodes.specs.View.{todo_of}
+use Rattle.vx_machine_node.specs.Causes.{MayCome}
+use Rattle.vx_machine_node.specs.Regrouped.{misfit_in, sizes_in, rows_counted, acted_numbers, rest_hands, RestFits}
+use Rattle.vx_machine_node.specs.View.{todo_of}
 use Rattle.vx_machine_nodes.proofs.GroupActs.{takes_fitting, rest_handed, rest_cause, rest_fits, all_ok, whole_one, whole_unreserved, whole_handed}
 use Rattle.vx_machine_nodes.proofs.grouped.hand_rest.Goals as goal
 

@@ -3,9 +3,9 @@ use Rattle.vx_model.specs.ChunkData.{held}
 use Rattle.vx_sink.specs.ContextView.{counted}
 use Rattle.vx_regroup.specs.declared.regroup.Regroup.{Regroup}
 use Rattle.vx_machine_nodes.specs.Acting.{ListRefused}
-use Rattle.vx_machine_nodes.specs.Regrouped.{weight_in, taken_sizes}
+use Rattle.vx_machine_node.specs.Regrouped.{weight_in, taken_sizes}
 use Rattle.vx_machine_nodes.proofs.GroupNumbers.{far_refuses}
-use Rattle.vx_machine_nodes.proofs.LedgerSteps.{told_same}
+use Rattle.vx_machine_node.proofs.LedgerSteps.{told_same}
 use Rattle.vx_machine_nodes.proofs.RefusalSteps.{by_one}
 use Rattle.vx_machine_nodes.proofs.grouped.reserve.Goals as goal
 

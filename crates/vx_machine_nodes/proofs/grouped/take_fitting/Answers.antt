@@ -1,11 +1,11 @@
 use Rattle.std.proofs.Common.{◌≤◌, ◌++◌, ap, refl, ◌∙◌, arith}
 use Rattle.vx_sink.specs.ContextView.{counted}
-use Rattle.vx_machine_nodes.specs.Regrouped.{handed}
-use Rattle.vx_machine_nodes.specs.Sizes.{sum_of}
-use Rattle.vx_machine_nodes.specs.View.{todo_of}
+use Rattle.vx_machine_node.specs.Regrouped.{handed}
+use Rattle.vx_machine_node.specs.Sizes.{sum_of}
+use Rattle.vx_machine_node.specs.View.{todo_of}
 use Rattle.std.specs.Arc.{arc_value}
 use Rattle.vx_model.specs.TyView.{ty}
-use Rattle.vx_machine_nodes.proofs.GroupSizes.{sum_kept}
+use Rattle.vx_machine_node.proofs.GroupSizes.{sum_kept}
 use Rattle.vx_machine_nodes.proofs.GroupTakes.{weighs_less, next_fits, next_of, next_sizes, next_rows, group_took}
 use Rattle.vx_machine_nodes.proofs.grouped.take_fitting.Goals as goal
 

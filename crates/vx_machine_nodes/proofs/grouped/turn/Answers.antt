@@ -1,6 +1,6 @@
 use Rattle.std.proofs.Common.{ap, ◌∙◌}
-use Rattle.vx_machine_nodes.specs.Sizes.{sum_of}
-use Rattle.vx_machine_nodes.proofs.GroupSizes.{sum_turned}
+use Rattle.vx_machine_node.specs.Sizes.{sum_of}
+use Rattle.vx_machine_node.proofs.GroupSizes.{sum_turned}
 use Rattle.vx_machine_nodes.proofs.grouped.turn.Goals as goal
 
 pub returns-then-count-len-clause-sum : goal.returns-then-count-len-clause-sum

@@ -1,8 +1,8 @@
 use Rattle.std.proofs.Common.{refl, sym, ◌∙◌, arith}
-use Rattle.vx_machine_nodes.specs.declared.node.Local.TheVariants.{Over}
-use Rattle.vx_machine_nodes.specs.View.{todo_of}
-use Rattle.vx_machine_nodes.proofs.DueSteps.{two_free}
-use Rattle.vx_machine_nodes.proofs.ReservedSteps.{dues_push}
+use Rattle.vx_machine_node.specs.declared.node.Local.TheVariants.{Over}
+use Rattle.vx_machine_node.specs.View.{todo_of}
+use Rattle.vx_machine_node.proofs.DueSteps.{two_free}
+use Rattle.vx_machine_node.proofs.ReservedSteps.{dues_push}
 use Rattle.vx_machine_nodes.proofs.TakeShows.{lists_end, lists_empty, two_more}
 use Rattle.vx_machine_nodes.proofs.lists.end_lists.Goals as goal
 

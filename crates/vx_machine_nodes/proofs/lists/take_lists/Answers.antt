@@ -1,10 +1,10 @@
 use Rattle.std.proofs.Common.{◌++◌, ap, sym, subst, ◌∙◌}
 use Rattle.vx_order.specs.Ids.{children}
-use Rattle.vx_machine_view.specs.Acts.{puts}
-use Rattle.vx_machine_nodes.specs.declared.node.Local.TheVariants.{Lists}
+use Rattle.vx_machine_state.specs.Acts.{puts}
+use Rattle.vx_machine_node.specs.declared.node.Local.TheVariants.{Lists}
 use Rattle.vx_machine_nodes.specs.Acting.{taken, TakeRefused}
-use Rattle.vx_machine_nodes.specs.Ledger.{dues_reserved}
-use Rattle.vx_machine_nodes.specs.View.{item_of, todo_of, mind_of}
+use Rattle.vx_machine_node.specs.Ledger.{dues_reserved}
+use Rattle.vx_machine_node.specs.View.{item_of, todo_of, mind_of}
 use Rattle.vx_machine_nodes.proofs.ActCauses.{order_memory}
 use Rattle.vx_machine_nodes.proofs.TakeShows.{lists_took, lists_why}
 use Rattle.vx_machine_nodes.proofs.lists.take_lists.Goals as goal

@@ -1,9 +1,9 @@
 use Rattle.std.proofs.Common.{refl, ◌∙◌, arith}
 use Rattle.vx_machine_ids.specs.Stock.{both, end_stock}
-use Rattle.vx_machine_nodes.specs.Stocks.{dues_stock}
-use Rattle.vx_machine_nodes.specs.View.{todo_of}
-use Rattle.vx_machine_nodes.proofs.DueSteps.{one_more, one_free}
-use Rattle.vx_machine_nodes.proofs.ReservedSteps.{dues_push}
+use Rattle.vx_machine_node.specs.Stocks.{dues_stock}
+use Rattle.vx_machine_node.specs.View.{todo_of}
+use Rattle.vx_machine_node.proofs.DueSteps.{one_more, one_free}
+use Rattle.vx_machine_node.proofs.ReservedSteps.{dues_push}
 use Rattle.vx_machine_nodes.proofs.ZoneSteps.{kept_behind, three_more, zones_end_some}
 use Rattle.vx_machine_nodes.proofs.zoned.end_zoned.Goals as goal
 

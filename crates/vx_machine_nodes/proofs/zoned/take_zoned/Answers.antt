@@ -2,7 +2,7 @@ use Rattle.std.proofs.Common.{◌∷◌, ap, ◌∙◌}
 use Rattle.std.specs.Arc.{arc_value}
 use Rattle.vx_model.specs.ChunkData.{piece_type}
 use Rattle.vx_model.specs.TyView.{ty}
-use Rattle.vx_machine_nodes.specs.declared.item.Due.TheVariants.{Put}
+use Rattle.vx_machine_node.specs.declared.item.Due.TheVariants.{Put}
 use Rattle.vx_machine_nodes.proofs.SplitSteps.{misfit_eq, typed_eq}
 use Rattle.vx_machine_nodes.proofs.ZoneSteps.{zone_took}
 use Rattle.vx_machine_nodes.proofs.zoned.take_zoned.Goals as goal

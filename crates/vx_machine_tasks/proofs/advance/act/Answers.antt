@@ -7,21 +7,21 @@ use Rattle.vx_machine_ids.specs.Balance.{Owned, Moved}
 use Rattle.vx_sink.specs.ContextView.{listed}
 use Rattle.vx_write_answer.specs.declared.step.ActionKind.TheVariants as actions
 use Rattle.vx_machine_tasks.specs.Pairs.{due_pairs, AllMay}
-use Rattle.vx_machine_tasks.specs.Ready.{Kid, may_due, kids_of, room_at, all_made, can_join}
-use Rattle.vx_machine_nodes.specs.Ledger.{some_bytes, due_reserved}
-use Rattle.vx_machine_nodes.specs.Stocks.{item_stock, stored_stock, table_stock, run_stock, due_stock, dues_stock, local_stock}
-use Rattle.vx_machine_nodes.specs.View.{todo_of}
-use Rattle.vx_machine_tasks.specs.Stocks.{tasks_stock}
-use Rattle.vx_machine_nodes.specs.declared.item.Due.{Due}
-use Rattle.vx_machine_nodes.specs.declared.item.Due.TheVariants.{Put, HandOn, Press, Append, Join, Table, Ask, OpenRun, EndRun}
-use Rattle.vx_machine_nodes.specs.declared.node.Shape.{Shape}
-use Rattle.vx_machine_tasks.proofs.ActMoves.{put_owned, put_moved, append_owned, append_moved, press_owned, press_moved, leave_owned, leave_moved, join_owned, join_moved, close_moved}
-use Rattle.vx_machine_nodes.specs.Causes.{AppendMay, PressMay, ActMay}
-use Rattle.vx_machine_nodes.specs.Context.{setting_of}
+use Rattle.vx_machine_task.specs.Ready.{Kid, may_due, kids_of, room_at, all_made, can_join}
+use Rattle.vx_machine_node.specs.Ledger.{some_bytes, due_reserved}
+use Rattle.vx_machine_node.specs.Stocks.{item_stock, stored_stock, table_stock, run_stock, due_stock, dues_stock, local_stock}
+use Rattle.vx_machine_node.specs.View.{todo_of}
+use Rattle.vx_machine_task.specs.Stocks.{tasks_stock}
+use Rattle.vx_machine_node.specs.declared.item.Due.{Due}
+use Rattle.vx_machine_node.specs.declared.item.Due.TheVariants.{Put, HandOn, Press, Append, Join, Table, Ask, OpenRun, EndRun}
+use Rattle.vx_machine_node.specs.declared.node.Shape.{Shape}
+use Rattle.vx_machine_acts.proofs.ActMoves.{put_owned, put_moved, append_owned, append_moved, press_owned, press_moved, leave_owned, leave_moved, join_owned, join_moved, close_moved}
+use Rattle.vx_machine_node.specs.Causes.{AppendMay, PressMay, ActMay}
+use Rattle.vx_machine_node.specs.Context.{setting_of}
 use Rattle.vx_machine_nodes.proofs.ActCauses.{memory_may, all_wider, all_append, append_wider, press_wider}
 use Rattle.vx_machine_nodes.proofs.CallSteps.{unasked_self, unasked_by, quiet_told, pressed_told, uncalled}
-use Rattle.vx_machine_tasks.proofs.Readiness.{least_means}
-use Rattle.vx_machine_tasks.proofs.ActShows.{err_kept, put_does, put_says, hand_does, hand_says, append_does, append_says, close_does, leave_does, press_does, press_says, append_kind, join_does, join_says, join_kind, start_does, start_says, start_kind, ask_does, ask_says, end_does, end_says}
+use Rattle.vx_machine_task.proofs.Readiness.{least_means}
+use Rattle.vx_machine_acts.proofs.ActShows.{err_kept, put_does, put_says, hand_does, hand_says, append_does, append_says, close_does, leave_does, press_does, press_says, append_kind, join_does, join_says, join_kind, start_does, start_says, start_kind, ask_does, ask_says, end_does, end_says}
 use Rattle.vx_machine_tasks.specs.Asking.{ImageMay}
 use Rattle.vx_machine_tasks.proofs.AskShows.{image_wider, image_told}
 use Rattle.vx_machine_tasks.proofs.CallShows.{all_calls, none_called, none_appended}

@@ -1,20 +1,20 @@
 use Rattle.std.proofs.Common.{sym, ap, subst, ◌∙◌, ◌≡◌, ◌+◌, [], refl, arith}
 use Rattle.vx_machine_ids.specs.Stock.{both}
 use Rattle.vx_machine_tasks.specs.Pairs.{next_pairs, AllMay}
-use Rattle.vx_machine_tasks.specs.Ready.{may_todo, kids_of}
-use Rattle.vx_machine_nodes.specs.Ledger.{due_reserved, dues_reserved}
-use Rattle.vx_machine_nodes.specs.Stocks.{items_stock, dues_stock, local_stock}
-use Rattle.vx_machine_nodes.specs.View.{todo_of}
-use Rattle.vx_machine_tasks.specs.Stocks.{head_stock, tasks_stock}
-use Rattle.vx_machine_tasks.proofs.ActMoves.{act_owned, act_moved, idle_owned, idle_moved}
+use Rattle.vx_machine_task.specs.Ready.{may_todo, kids_of}
+use Rattle.vx_machine_node.specs.Ledger.{due_reserved, dues_reserved}
+use Rattle.vx_machine_node.specs.Stocks.{items_stock, dues_stock, local_stock}
+use Rattle.vx_machine_node.specs.View.{todo_of}
+use Rattle.vx_machine_task.specs.Stocks.{head_stock, tasks_stock}
+use Rattle.vx_machine_acts.proofs.ActMoves.{act_owned, act_moved, idle_owned, idle_moved}
 use Rattle.vx_machine_nodes.proofs.ActCauses.{wider}
 use Rattle.vx_machine_nodes.proofs.CallSteps.{unasked_by, quiet_stops}
-use Rattle.vx_machine_tasks.specs.declared.task.Head.{Head}
+use Rattle.vx_machine_task.specs.declared.task.Head.{Head}
 use Rattle.vx_machine_nodes.proofs.WriteSteps.{kept_same}
 use Rattle.vx_machine_tasks.proofs.NextShows.{due_done, due_refused, take_acted, take_refused, take_open}
-use Rattle.vx_machine_nodes.proofs.ListParts.{none_is}
+use Rattle.vx_machine_node.proofs.ListParts.{none_is}
 use Rattle.std.proofs.lemmas.Result.{IfErr-weaker}
-use Rattle.vx_machine_tasks.specs.Acting.{DueFails, NextFails}
+use Rattle.vx_machine_acts.specs.Acting.{DueFails, NextFails}
 use Rattle.vx_machine_tasks.proofs.CallShows.{due_fails, take_fails}
 use Rattle.vx_machine_tasks.proofs.advance.advance.Goals as goal
 

@@ -2,18 +2,18 @@ use Rattle.std.proofs.Common.{◌≡◌, refl, ap, sym, subst, arith}
 use Rattle.vx_machine_ids.specs.Stock.{none, both, end_stock}
 use Rattle.vx_machine_ids.specs.Balance.{Owned, Moved}
 use Rattle.vx_machine_nodes.specs.Acting.{is_grouped, is_probe, is_cutting, taken, Took}
-use Rattle.vx_machine_nodes.specs.Context.{setting_of}
-use Rattle.vx_machine_nodes.specs.Ledger.{local_reserved}
-use Rattle.vx_machine_nodes.specs.Stocks.{item_stock, dues_stock, local_stock, zoned_stock}
-use Rattle.vx_machine_tasks.specs.Stocks.{tasks_stock}
-use Rattle.vx_machine_tasks.proofs.ActMoves.{take_chunked_owned, take_chunked_moved, take_columns_owned, take_columns_moved, take_flat_owned, take_flat_moved, take_nothing_owned, take_nothing_moved, take_group_owned, take_group_moved}
-use Rattle.vx_machine_nodes.specs.declared.node.Local.TheVariants.{Chunked, Columns, Lists, Zoned, Pressing, AsIs}
-use Rattle.vx_machine_nodes.specs.View.{item_of, todo_of, mind_of}
-use Rattle.vx_machine_tasks.specs.View.{row}
-use Rattle.vx_machine_tasks.proofs.TakeShows.{chunked_by, chunked_why_by, columns_by, columns_why_by, taken_as, zones_by, flat_by, flat_why_by, flat_left}
-use Rattle.vx_machine_tasks.proofs.StopSteps.{chunk_stops, chunk_memory, group_done, group_stops}
+use Rattle.vx_machine_node.specs.Context.{setting_of}
+use Rattle.vx_machine_node.specs.Ledger.{local_reserved}
+use Rattle.vx_machine_node.specs.Stocks.{item_stock, dues_stock, local_stock, zoned_stock}
+use Rattle.vx_machine_task.specs.Stocks.{tasks_stock}
+use Rattle.vx_machine_acts.proofs.ActMoves.{take_chunked_owned, take_chunked_moved, take_columns_owned, take_columns_moved, take_flat_owned, take_flat_moved, take_nothing_owned, take_nothing_moved, take_group_owned, take_group_moved}
+use Rattle.vx_machine_node.specs.declared.node.Local.TheVariants.{Chunked, Columns, Lists, Zoned, Pressing, AsIs}
+use Rattle.vx_machine_node.specs.View.{item_of, todo_of, mind_of}
+use Rattle.vx_machine_task.specs.View.{row}
+use Rattle.vx_machine_acts.proofs.TakeShows.{chunked_by, chunked_why_by, columns_by, columns_why_by, taken_as, zones_by, flat_by, flat_why_by, flat_left}
+use Rattle.vx_machine_acts.proofs.StopSteps.{chunk_stops, chunk_memory, group_done, group_stops}
 use Rattle.vx_machine_nodes.proofs.ActCauses.{memory_may}
-use Rattle.vx_machine_nodes.proofs.Fitting.{none_fit}
+use Rattle.vx_machine_node.proofs.Fitting.{none_fit}
 use Rattle.vx_machine_tasks.proofs.advance.take.Goals as goal
 
 pub take_chunked-requires : goal.take_chunked-requires

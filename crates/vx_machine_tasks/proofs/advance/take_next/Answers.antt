@@ -1,13 +1,13 @@
-use Rattle.vx_machine_nodes.specs.Stocks.{dues_stock, local_stock}
-use Rattle.vx_machine_tasks.specs.Stocks.{tasks_stock}
-use Rattle.vx_machine_tasks.proofs.ActMoves.{take_owned, take_moved, last_owned, last_moved, probe_owned, probe_moved}
+use Rattle.vx_machine_node.specs.Stocks.{dues_stock, local_stock}
+use Rattle.vx_machine_task.specs.Stocks.{tasks_stock}
+use Rattle.vx_machine_acts.proofs.ActMoves.{take_owned, take_moved, last_owned, last_moved, probe_owned, probe_moved}
 use Rattle.std.proofs.Common.{refl, sym, ap, ◌∙◌, arith}
-use Rattle.vx_machine_tasks.specs.declared.task.Head.{Head}
-use Rattle.vx_machine_nodes.specs.View.{todo_of}
+use Rattle.vx_machine_task.specs.declared.task.Head.{Head}
+use Rattle.vx_machine_node.specs.View.{todo_of}
 use Rattle.vx_machine_tasks.proofs.NextShows.{chunk_done, chunk_refused, end_done, end_refused, probe_done, probe_refused}
-use Rattle.vx_machine_tasks.proofs.TakeShows.{unprobed}
+use Rattle.vx_machine_acts.proofs.TakeShows.{unprobed}
 use Rattle.vx_machine_nodes.specs.Acting.{is_probe}
-use Rattle.vx_machine_nodes.proofs.ListParts.{none_is}
+use Rattle.vx_machine_node.proofs.ListParts.{none_is}
 use Rattle.vx_machine_tasks.proofs.advance.take_next.Goals as goal
 
 pub take-requires-clause-owned : goal.take-requires-clause-owned

@@ -1,6 +1,6 @@
 use Rattle.std.proofs.Common.{arith}
-use Rattle.vx_machine_nodes.specs.View.{item_of}
-use Rattle.vx_machine_tasks.proofs.RowSteps.{fed_row}
+use Rattle.vx_machine_node.specs.View.{item_of}
+use Rattle.vx_machine_start.proofs.StartRows.{fed_row}
 use Rattle.vx_machine_tasks.proofs.chunked.fed.Goals as goal
 
 pub returns-in-Ok-clause-fed : goal.returns-in-Ok-clause-fed

@@ -5,13 +5,13 @@ use Rattle.vx_machine_ids.specs.Stock.{Stock, both, end_stock, ok_stock}
 use Rattle.vx_machine_ids.specs.Balance.{Moved}
 use Rattle.vx_machine_ids.proofs.Stocks.{both_none}
 use Rattle.vx_machine_ids.proofs.MoveLaws.{moved_none}
-use Rattle.vx_machine_tasks.specs.Stocks.{task_stock}
-use Rattle.vx_machine_nodes.proofs.CauseSteps.{start_may}
+use Rattle.vx_machine_task.specs.Stocks.{task_stock}
+use Rattle.vx_machine_fresh.proofs.StartCauses.{start_may}
 use Rattle.std.specs.Arc.{arc_value}
 use Rattle.vx_path.specs.Path.{under, inside}
 use Rattle.vx_model.specs.TyView.{ty}
 use Rattle.vx_sink.specs.ContextView.{allowed_in}
-use Rattle.vx_machine_tasks.proofs.RowSteps.{started_as, one_refused_as}
+use Rattle.vx_machine_start.proofs.StartRows.{started_as, one_refused_as}
 use Rattle.vx_machine_tasks.proofs.chunked.next_child.Goals as goal
 
 pub returns-in_err-name-clause-moved : goal.returns-in_err-name-clause-moved

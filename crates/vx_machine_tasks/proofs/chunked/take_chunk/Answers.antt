@@ -1,15 +1,15 @@
 use Rattle.std.proofs.Common.{◌≡◌, ◌+◌, [], ◌∷◌, ◌++◌, length, ap, ◌∙◌, arith}
 use Rattle.vx_machine_ids.specs.Stock.{end_stock}
-use Rattle.vx_machine_nodes.specs.Stocks.{item_stock}
-use Rattle.vx_machine_tasks.proofs.StartMoves.{fed_moved}
+use Rattle.vx_machine_node.specs.Stocks.{item_stock}
+use Rattle.vx_machine_start.proofs.StartMoves.{fed_moved}
 use Rattle.vx_path.specs.Path.{under, inside}
-use Rattle.vx_machine_tasks.specs.Ledger.{task_reserved, tasks_reserved}
-use Rattle.vx_machine_tasks.proofs.ReservedSteps.{tasks_push, started_none}
-use Rattle.vx_machine_view.specs.Start.{first_indices}
-use Rattle.vx_machine_nodes.specs.View.{item_of, child_form}
-use Rattle.vx_machine_nodes.proofs.Fitting.{then_fit}
+use Rattle.vx_machine_task.specs.Ledger.{task_reserved, tasks_reserved}
+use Rattle.vx_machine_task.proofs.ReservedSteps.{tasks_push}
+use Rattle.vx_machine_start.proofs.StartRows.{started_none, chunk_row}
+use Rattle.vx_machine_state.specs.Start.{first_indices}
+use Rattle.vx_machine_node.specs.View.{item_of, child_form}
+use Rattle.vx_machine_node.proofs.Fitting.{then_fit}
 use Rattle.vx_sink.specs.ContextView.{allowed_in}
-use Rattle.vx_machine_tasks.proofs.RowSteps.{chunk_row}
 use Rattle.vx_machine_tasks.proofs.chunked.take_chunk.Goals as goal
 
 pub returns-in_ok-kid-in-Ok-clause-moved : goal.returns-in_ok-kid-in-Ok-clause-moved

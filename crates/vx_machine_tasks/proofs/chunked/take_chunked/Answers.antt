@@ -3,10 +3,10 @@ use Rattle.std.proofs.lemmas.Result.{err_from_is_err_and}
 use Rattle.std.specs.Arc.{arc_value}
 use Rattle.vx_model.specs.TyView.{ty}
 use Rattle.vx_machine_nodes.specs.Acting.{SplitRefused}
-use Rattle.vx_machine_nodes.specs.View.{child_form}
+use Rattle.vx_machine_node.specs.View.{child_form}
 use Rattle.vx_sink.specs.ContextView.{allowed_in}
-use Rattle.vx_machine_tasks.specs.View.{row}
-use Rattle.vx_machine_tasks.proofs.TakeShows.{chunked_took, start_why, chunked_why}
+use Rattle.vx_machine_task.specs.View.{row}
+use Rattle.vx_machine_tasks.proofs.ChunkTakes.{chunked_took, start_why, chunked_why}
 use Rattle.vx_machine_tasks.proofs.chunked.take_chunked.Goals as goal
 
 pub returns-in_ok-take_chunk-in-Ok-clause-done : goal.returns-in_ok-take_chunk-in-Ok-clause-done

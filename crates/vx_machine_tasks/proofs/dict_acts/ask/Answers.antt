@@ -1,8 +1,8 @@
 use Rattle.std.proofs.Common.{[], ◌∙◌}
 use Rattle.std.specs.Arc.{arc_value}
 use Rattle.std.proofs.lemmas.Result.{err_from_is_err_and}
-use Rattle.vx_machine_nodes.specs.View.{coder_in, item_of, todo_of, mind_of}
-use Rattle.vx_machine_tasks.specs.View.{row}
+use Rattle.vx_machine_node.specs.View.{coder_in, item_of, todo_of, mind_of}
+use Rattle.vx_machine_task.specs.View.{row}
 use Rattle.vx_machine_tasks.proofs.DictActs.{coded_is, asked, asked_why, called_stops}
 use Rattle.vx_machine_tasks.proofs.AskShows.{image_may}
 use Rattle.vx_machine_tasks.proofs.dict_acts.ask.Goals as goal

@@ -4,20 +4,20 @@ use Rattle.std.proofs.lemmas.Bool.{true≢false}
 use Rattle.std.proofs.lemmas.Result.{err_from_is_err_and}
 use Rattle.vx_machine_ids.specs.Stock.{end_stock}
 use Rattle.vx_sink.specs.ContextView.{allowed_in}
-use Rattle.vx_machine_view.specs.State.{by_probe}
+use Rattle.vx_machine_state.specs.State.{by_probe}
 use Rattle.vx_machine_nodes.specs.Acting.{is_probe}
-use Rattle.vx_machine_nodes.specs.Ledger.{dues_reserved, local_reserved}
-use Rattle.vx_machine_nodes.specs.Stocks.{dues_stock, local_stock}
-use Rattle.vx_machine_nodes.specs.View.{coder_in, todo_of, mind_of}
-use Rattle.vx_machine_nodes.specs.declared.item.Due.TheVariants.{Close}
-use Rattle.vx_machine_nodes.specs.declared.node.Local.TheVariants.{Probe}
-use Rattle.vx_machine_nodes.proofs.CauseSteps.{start_may}
-use Rattle.vx_machine_nodes.proofs.DueSteps.{one_free}
-use Rattle.vx_machine_nodes.proofs.ReservedSteps.{dues_push}
-use Rattle.vx_machine_tasks.specs.Stocks.{tasks_stock}
-use Rattle.vx_machine_tasks.specs.View.{row}
+use Rattle.vx_machine_node.specs.Ledger.{dues_reserved, local_reserved}
+use Rattle.vx_machine_node.specs.Stocks.{dues_stock, local_stock}
+use Rattle.vx_machine_node.specs.View.{coder_in, todo_of, mind_of}
+use Rattle.vx_machine_node.specs.declared.item.Due.TheVariants.{Close}
+use Rattle.vx_machine_node.specs.declared.node.Local.TheVariants.{Probe}
+use Rattle.vx_machine_fresh.proofs.StartCauses.{start_may}
+use Rattle.vx_machine_node.proofs.DueSteps.{one_free}
+use Rattle.vx_machine_node.proofs.ReservedSteps.{dues_push}
+use Rattle.vx_machine_task.specs.Stocks.{tasks_stock}
+use Rattle.vx_machine_task.specs.View.{row}
 use Rattle.vx_machine_tasks.proofs.DictActs.{probe_ended, probe_kids, probe_why, by_count, end_owned, end_moved, end_stays, probe_free, close_due}
-use Rattle.vx_machine_tasks.proofs.TakeShows.{unprobed}
+use Rattle.vx_machine_acts.proofs.TakeShows.{unprobed}
 use Rattle.vx_machine_tasks.proofs.dict_acts.end_probe.Goals as goal
 
 pub unreachable-requires : goal.unreachable-requires

@@ -3,13 +3,13 @@ use Rattle.vx_machine_ids.specs.Stock.{both}
 use Rattle.vx_machine_ids.specs.Balance.{Owned}
 use Rattle.vx_machine_ids.proofs.Lists.{set_same}
 use Rattle.vx_machine_ids.proofs.MoveLaws.{moved_as}
-use Rattle.vx_machine_nodes.specs.Stocks.{item_stock}
-use Rattle.vx_machine_nodes.specs.View.{item_of}
-use Rattle.vx_machine_tasks.specs.Stocks.{task_stock, tasks_stock}
-use Rattle.vx_machine_tasks.specs.View.{row}
+use Rattle.vx_machine_node.specs.Stocks.{item_stock}
+use Rattle.vx_machine_node.specs.View.{item_of}
+use Rattle.vx_machine_task.specs.Stocks.{task_stock, tasks_stock}
+use Rattle.vx_machine_task.specs.View.{row}
 use Rattle.vx_machine_tasks.proofs.DictActs.{shut_row, shut_moved, shut_reserved, room_beside, ended_row, still_within}
-use Rattle.vx_machine_tasks.proofs.PaidSteps.{at_same}
-use Rattle.vx_machine_tasks.proofs.Readiness.{room_within}
+use Rattle.vx_machine_task.proofs.PaidSteps.{at_same}
+use Rattle.vx_machine_task.proofs.Readiness.{room_within}
 use Rattle.vx_machine_tasks.proofs.dict_acts.end_run.Goals as goal
 
 pub index_mut-requires : goal.index_mut-requires

@@ -2,16 +2,16 @@ use Rattle.std.proofs.Common.{◌≡◌, ◌+◌, [], ◌∷◌, None, refl, ap,
 use Rattle.std.specs.Arc.{arc_value}
 use Rattle.vx_machine_ids.specs.Stock.{end_stock}
 use Rattle.vx_sink.specs.ContextView.{allowed_in}
-use Rattle.vx_machine_view.specs.Acts.{probed}
-use Rattle.vx_machine_nodes.specs.declared.dict_node.DictNode.{DictNode}
-use Rattle.vx_machine_nodes.specs.declared.item.Due.TheVariants.{HandOn}
+use Rattle.vx_machine_state.specs.Acts.{probed}
+use Rattle.vx_machine_node.specs.declared.dict_node.DictNode.{DictNode}
+use Rattle.vx_machine_node.specs.declared.item.Due.TheVariants.{HandOn}
 use Rattle.vx_machine_nodes.specs.Acting.{bare, Took, TakeRefused}
-use Rattle.vx_machine_nodes.specs.Ledger.{dues_reserved, local_reserved}
-use Rattle.vx_machine_nodes.specs.Stocks.{item_stock, dues_stock, local_stock, probe_stock, runs_stock}
-use Rattle.vx_machine_nodes.specs.View.{coder_in, item_of, todo_of, mind_of}
-use Rattle.vx_machine_nodes.proofs.CauseSteps.{start_may}
-use Rattle.vx_machine_tasks.specs.Stocks.{tasks_stock}
-use Rattle.vx_machine_tasks.specs.View.{row}
+use Rattle.vx_machine_node.specs.Ledger.{dues_reserved, local_reserved}
+use Rattle.vx_machine_node.specs.Stocks.{item_stock, dues_stock, local_stock, probe_stock, runs_stock}
+use Rattle.vx_machine_node.specs.View.{coder_in, item_of, todo_of, mind_of}
+use Rattle.vx_machine_fresh.proofs.StartCauses.{start_may}
+use Rattle.vx_machine_task.specs.Stocks.{tasks_stock}
+use Rattle.vx_machine_task.specs.View.{row}
 use Rattle.vx_machine_tasks.proofs.DictActs.{coded_took, fell_took, fell_why, by_count, fell_owned, fell_item, fell_mind, fell_moved, fell_lost, probe_owned, probe_lost, runs_owned, runs_moved}
 use Rattle.vx_machine_tasks.proofs.dict_acts.go_on.Goals as goal
 

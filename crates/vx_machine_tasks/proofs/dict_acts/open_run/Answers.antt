@@ -4,12 +4,12 @@ use Rattle.std.proofs.lemmas.Result.{err_from_is_err_and}
 use Rattle.vx_path.specs.Path.{inside, next}
 use Rattle.vx_machine_ids.specs.Stock.{id_stock}
 use Rattle.vx_sink.specs.ContextView.{allowed_in}
-use Rattle.vx_machine_nodes.specs.RunPaths.{eof_at}
-use Rattle.vx_machine_nodes.specs.Stocks.{item_stock}
-use Rattle.vx_machine_nodes.specs.View.{item_of}
-use Rattle.vx_machine_nodes.proofs.CauseSteps.{start_may}
-use Rattle.vx_machine_nodes.proofs.LedgerSteps.{told_allowed}
-use Rattle.vx_machine_tasks.specs.Stocks.{tasks_stock}
+use Rattle.vx_machine_node.specs.RunPaths.{eof_at}
+use Rattle.vx_machine_node.specs.Stocks.{item_stock}
+use Rattle.vx_machine_node.specs.View.{item_of}
+use Rattle.vx_machine_fresh.proofs.StartCauses.{start_may}
+use Rattle.vx_machine_node.proofs.LedgerSteps.{told_allowed}
+use Rattle.vx_machine_task.specs.Stocks.{tasks_stock}
 use Rattle.vx_machine_tasks.proofs.DictActs.{codes_owned, values_owned, run_moved, run_lost, opened, codes_why, values_why}
 use Rattle.vx_machine_tasks.proofs.dict_acts.open_run.Goals as goal
 

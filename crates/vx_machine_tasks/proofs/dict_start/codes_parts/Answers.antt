@@ -1,6 +1,6 @@
 use Rattle.std.proofs.Common.{ap, ◌∙◌}
 use Rattle.vx_model.specs.TyView.{ty}
-use Rattle.vx_machine_nodes.specs.View.{options_in}
+use Rattle.vx_machine_node.specs.View.{options_in}
 use Rattle.vx_machine_tasks.proofs.DictStarts.{codes_type}
 use Rattle.vx_machine_tasks.proofs.dict_start.codes_parts.Goals as goal
 

@@ -7,16 +7,15 @@ use Rattle.vx_rules.specs.Runs.{code_type}
 use Rattle.vx_machine_ids.specs.Stock.{none, both, id_stock}
 use Rattle.vx_sink.specs.ContextView.{allowed_in}
 use Rattle.vx_machine_ids.proofs.MoveLaws.{owned_right}
-use Rattle.vx_machine_nodes.specs.Stocks.{item_stock}
-use Rattle.vx_machine_nodes.specs.View.{form_at, options_in, item_of}
+use Rattle.vx_machine_node.specs.Stocks.{item_stock}
+use Rattle.vx_machine_node.specs.View.{form_at, options_in, item_of}
 use Rattle.vx_machine_turns.specs.Starts.{start_fault}
-use Rattle.vx_machine_view.specs.Start.{first_indices}
-use Rattle.vx_machine_tasks.specs.Ledger.{task_reserved, tasks_reserved}
-use Rattle.vx_machine_tasks.specs.Stocks.{task_stock, tasks_stock}
+use Rattle.vx_machine_state.specs.Start.{first_indices}
+use Rattle.vx_machine_task.specs.Ledger.{task_reserved, tasks_reserved}
+use Rattle.vx_machine_task.specs.Stocks.{task_stock, tasks_stock}
 use Rattle.vx_machine_tasks.proofs.DictStarts.{value_moved, lost_moved, two_owned, two_moved, two_lost, codes_paid, lost_paid, kid_started, kid_refused, at_start}
-use Rattle.vx_machine_tasks.proofs.ReservedSteps.{started_none}
-use Rattle.vx_machine_tasks.proofs.RowSteps.{given_task}
-use Rattle.vx_machine_tasks.proofs.StartShows.{memory_refused}
+use Rattle.vx_machine_start.proofs.StartRows.{started_none, given_task}
+use Rattle.vx_machine_start.proofs.StartShows.{memory_refused}
 use Rattle.vx_machine_tasks.proofs.dict_start.start_codes.Goals as goal
 
 pub given-requires-clause-owned : goal.given-requires-clause-owned

@@ -4,18 +4,15 @@ use Rattle.std.proofs.lemmas.Result.{err_from_is_err_and}
 use Rattle.vx_path.specs.Path.{under}
 use Rattle.vx_machine_ids.specs.Stock.{end_stock}
 use Rattle.vx_machine_turns.specs.Forms.{Form}
-use Rattle.vx_machine_view.specs.Start.{first_indices}
+use Rattle.vx_machine_state.specs.Start.{first_indices}
 use Rattle.vx_sink.specs.ContextView.{allowed_in}
-use Rattle.vx_machine_nodes.specs.Outcome.{AllFit}
-use Rattle.vx_machine_nodes.specs.View.{form_at, form_of, coder_in}
-use Rattle.vx_machine_tasks.specs.Ledger.{tasks_reserved}
-use Rattle.vx_machine_tasks.specs.Starting.{IsAllowed, FormRefused}
+use Rattle.vx_machine_node.specs.Outcome.{AllFit}
+use Rattle.vx_machine_node.specs.View.{form_at, form_of, coder_in}
+use Rattle.vx_machine_task.specs.Ledger.{tasks_reserved}
+use Rattle.vx_machine_start.specs.Starting.{IsAllowed, FormRefused}
 use Rattle.vx_machine_tasks.proofs.DictStarts.{value_moved, lost_moved, value_reserved, fallback_kids}
-use Rattle.vx_machine_tasks.proofs.ReservedSteps.{started_none}
+use Rattle.vx_machine_start.proofs.StartRows.{started_none}
 use Rattle.vx_machine_tasks.proofs.dict_start.start_fallback.Goals as goal
-
-pub start_task-requires-clause-built : goal.start_task-requires-clause-built
-start_task-requires-clause-built g c = rw c.strategy-child.ensures.same c.args.node.now.fallback_built
 
 pub returns-in_ok-kid-in-Ok-clause-moved : goal.returns-in_ok-kid-in-Ok-clause-moved
 returns-in_ok-kid-in-Ok-clause-moved g c =

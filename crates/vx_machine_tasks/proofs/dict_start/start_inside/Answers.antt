@@ -5,14 +5,11 @@ use Rattle.vx_strategy.specs.StrategyView.{strategy_data}
 use Rattle.vx_sink.specs.ContextView.{allowed_in}
 use Rattle.vx_write_answer.specs.Causes.{of_order}
 use Rattle.vx_machine_turns.specs.Starts.{start_fault}
-use Rattle.vx_machine_view.specs.Start.{first_indices}
-use Rattle.vx_machine_nodes.specs.View.{form_at}
+use Rattle.vx_machine_state.specs.Start.{first_indices}
+use Rattle.vx_machine_node.specs.View.{form_at}
 use Rattle.vx_machine_tasks.proofs.DictStarts.{inside_shows, inside_refused}
-use Rattle.vx_machine_tasks.proofs.StartShows.{memory_refused}
+use Rattle.vx_machine_start.proofs.StartShows.{memory_refused}
 use Rattle.vx_machine_tasks.proofs.dict_start.start_inside.Goals as goal
-
-pub start_task-requires-clause-built : goal.start_task-requires-clause-built
-start_task-requires-clause-built g c = rw c.strategy-strategy.ensures.same c.requires.built
 
 pub returns-in-Ok-clause-shows : goal.returns-in-Ok-clause-shows
 returns-in-Ok-clause-shows g c =

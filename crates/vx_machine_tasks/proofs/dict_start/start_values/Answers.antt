@@ -4,12 +4,12 @@ use Rattle.std.proofs.lemmas.Result.{err_from_is_err_and}
 use Rattle.vx_path.specs.Path.{under}
 use Rattle.vx_model.specs.TyView.{ty}
 use Rattle.vx_machine_ids.specs.Stock.{id_stock}
-use Rattle.vx_machine_view.specs.State.{no_tasks}
+use Rattle.vx_machine_state.specs.State.{no_tasks}
 use Rattle.vx_sink.specs.ContextView.{allowed_in}
-use Rattle.vx_machine_nodes.specs.View.{form_at}
-use Rattle.vx_machine_tasks.specs.Ledger.{tasks_reserved}
+use Rattle.vx_machine_node.specs.View.{form_at}
+use Rattle.vx_machine_task.specs.Ledger.{tasks_reserved}
 use Rattle.vx_machine_tasks.proofs.DictStarts.{value_moved, lost_moved, value_reserved, kid_started, kid_refused, at_start}
-use Rattle.vx_machine_tasks.proofs.ReservedSteps.{started_none}
+use Rattle.vx_machine_start.proofs.StartRows.{started_none}
 use Rattle.vx_machine_tasks.proofs.dict_start.start_values.Goals as goal
 
 pub returns-in_ok-kid-in-Ok-clause-moved : goal.returns-in_ok-kid-in-Ok-clause-moved

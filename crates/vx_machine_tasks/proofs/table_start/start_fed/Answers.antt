@@ -11,17 +11,17 @@ use Rattle.vx_sequence.specs.Universe.{Active}
 use Rattle.vx_machine_ids.specs.Stock.{Stock, none, both, end_stock}
 use Rattle.vx_machine_ids.specs.Balance.{Moved}
 use Rattle.vx_machine_turns.specs.Starts.{start_fault}
-use Rattle.vx_machine_view.specs.Built.{is_built}
-use Rattle.vx_machine_view.specs.Start.{first_indices}
+use Rattle.vx_machine_state.specs.Start.{first_indices}
 use Rattle.vx_sink.specs.ContextView.{allowed_in}
-use Rattle.vx_machine_nodes.specs.Stocks.{item_stock}
-use Rattle.vx_machine_nodes.specs.View.{form_at, form_of, item_of}
-use Rattle.vx_machine_nodes.proofs.CauseSteps.{memory_start, start_may}
-use Rattle.vx_machine_tasks.specs.Ledger.{task_reserved, tasks_reserved}
-use Rattle.vx_machine_tasks.specs.Starting.{Started, FormRefused}
-use Rattle.vx_machine_tasks.specs.Stocks.{task_stock, tasks_stock}
-use Rattle.vx_machine_tasks.proofs.ReservedSteps.{tasks_push, started_none}
-use Rattle.vx_machine_tasks.proofs.StartShows.{memory_refused}
+use Rattle.vx_machine_node.specs.Stocks.{item_stock}
+use Rattle.vx_machine_node.specs.View.{form_at, form_of, item_of}
+use Rattle.vx_machine_fresh.proofs.StartCauses.{memory_start, start_may}
+use Rattle.vx_machine_task.specs.Ledger.{task_reserved, tasks_reserved}
+use Rattle.vx_machine_start.specs.Starting.{Started, FormRefused}
+use Rattle.vx_machine_task.specs.Stocks.{task_stock, tasks_stock}
+use Rattle.vx_machine_task.proofs.ReservedSteps.{tasks_push}
+use Rattle.vx_machine_start.proofs.StartRows.{started_none}
+use Rattle.vx_machine_start.proofs.StartShows.{memory_refused}
 use Rattle.vx_machine_tasks.proofs.TableStarts.{fed_pointer, fed_item, fed_alone, fed_owned, fed_none, left_item, unstarted, left_pointer, given_up, table_started, table_refused, table_row}
 use Rattle.vx_machine_tasks.proofs.table_start.start_fed.Goals as goal
 
@@ -31,9 +31,6 @@ pub start_task-requires-clause-owned : goal.start_task-requires-clause-owned
 start_task-requires-clause-owned g c =
     let u : Active = g.O.Order.active c.args.order.now in
     fed_pointer u u u (end_stock c.args.eof) (item_stock c.args.item) c.args.kids.now.items c.requires.owned
-
-pub start_task-requires-clause-built : goal.start_task-requires-clause-built
-start_task-requires-clause-built g c = subst (λ z. IsTrue (is_built z)) (sym c.strategy.ensures.same) c.requires.built
 
 pub fed-requires-clause-owned : goal.fed-requires-clause-owned
 fed-requires-clause-owned g c =

@@ -5,13 +5,13 @@ use Rattle.vx_model.specs.ChunkData.{piece_type}
 use Rattle.vx_sequence.specs.Universe.{Active}
 use Rattle.vx_machine_ids.specs.Stock.{Stock, id_stock, end_stock, ok_stock}
 use Rattle.vx_machine_ids.proofs.MoveLaws.{owned_right}
-use Rattle.vx_machine_view.specs.Acts.{add}
-use Rattle.vx_machine_view.specs.Start.{first_indices, started_task}
+use Rattle.vx_machine_state.specs.Acts.{add}
+use Rattle.vx_machine_state.specs.Start.{first_indices, started_task}
 use Rattle.vx_sink.specs.ContextView.{allowed_in}
-use Rattle.vx_machine_nodes.specs.View.{form_at}
-use Rattle.vx_machine_tasks.specs.Starting.{Counted, FormRefused}
-use Rattle.vx_machine_tasks.specs.Stocks.{tasks_stock}
-use Rattle.vx_machine_tasks.specs.View.{row}
+use Rattle.vx_machine_node.specs.View.{form_at}
+use Rattle.vx_machine_start.specs.Starting.{Counted, FormRefused}
+use Rattle.vx_machine_task.specs.Stocks.{tasks_stock}
+use Rattle.vx_machine_task.specs.View.{row}
 use Rattle.vx_machine_tasks.proofs.TableStarts.{parts_owned, table_moved, table_left, table_unmoved, table_done, table_fails, pointer_fails}
 use Rattle.vx_machine_tasks.proofs.table_start.start_table.Goals as goal
 
@@ -24,9 +24,6 @@ pub start_fed-requires-clause-owned : goal.start_fed-requires-clause-owned
 start_fed-requires-clause-owned g c =
     let v : Active = g.O.Order.active c.take_first.new.order in
     parts_owned (g.O.Order.active c.args.order.now) v v (end_stock c.args.table.eof) (end_stock c.take_first.new.eof) (id_stock c.in-Ok.id) (tasks_stock c.args.kids.now.items) c.requires.owned c.in-Ok.ensures.moved
-
-pub start_fed-requires-clause-built : goal.start_fed-requires-clause-built
-start_fed-requires-clause-built g c = c.args.table.built
 
 -- its child has it
 

@@ -3,7 +3,7 @@ use Rattle.vx_model.specs.declared.encoding.EncodingId.{EncodingId}
 use Rattle.vx_sink.specs.ContextView.{is_marked}
 use Rattle.vx_setting.specs.Setting.{real}
 use Rattle.vx_compressor_spec.specs.TableImage.{table_image}
-use Rattle.vx_machine_view.specs.Images.{images_of}
+use Rattle.vx_machine_state.specs.Images.{images_of}
 use Rattle.vx_write.specs.Context.{setting_of}
 use Rattle.vx_job.specs.JobText.{JobData}
 use Rattle.vx_job.specs.JobView.{job_view}

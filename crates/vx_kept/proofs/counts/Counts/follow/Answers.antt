@@ -1,5 +1,5 @@
 use Rattle.std.proofs.Common.{◌≡◌, suc, ◌∷◌, subst, arith}
-use Rattle.vx_machine_view.specs.Acts.{shut_at}
+use Rattle.vx_machine_state.specs.Acts.{shut_at}
 use Rattle.vx_kept.specs.Kept.{KnowsFrom, Knows, asked_of, ready_of, kids_of}
 use Rattle.vx_kept.specs.Follow.{Follows}
 use Rattle.vx_kept.proofs.Following.{child_known, first_known, second_known, nothing_known}

@@ -1,5 +1,5 @@
 use Rattle.vx_machine_ids.proofs.MoveLaws.{owned_right}
-use Rattle.vx_machine_tasks.specs.Stocks.{task_stock}
+use Rattle.vx_machine_task.specs.Stocks.{task_stock}
 use Rattle.vx_machine.specs.Source.{phase_stock}
 use Rattle.vx_machine.proofs.machine.Machine.count_ready.Goals as goal
 

@@ -1,5 +1,5 @@
 use Rattle.std.proofs.Common.{◌&&◌, sym, ap, ◌∙◌}
-use Rattle.vx_machine_tasks.specs.Ready.{is_done}
+use Rattle.vx_machine_task.specs.Ready.{is_done}
 use Rattle.vx_machine.proofs.ReadyViews.{finished_view}
 use Rattle.vx_machine.proofs.machine.Machine.finished.Goals as goal
 

@@ -1,8 +1,8 @@
 use Rattle.std.proofs.Common.{◌≡◌, ◌+◌, ◌-◌, ◌^◌, min, sym, ap, ◌∙◌, arith}
 use Rattle.vx_machine_ids.specs.Stock.{one}
 use Rattle.vx_machine_ids.proofs.MoveLaws.{owned_right}
-use Rattle.vx_machine_tasks.specs.Ready.{ready_in, counted}
-use Rattle.vx_machine_tasks.specs.Stocks.{task_stock}
+use Rattle.vx_machine_task.specs.Ready.{ready_in, counted}
+use Rattle.vx_machine_task.specs.Stocks.{task_stock}
 use Rattle.vx_machine.specs.Source.{phase_stock}
 use Rattle.vx_machine.specs.Whole.{may_source, machine_ready}
 use Rattle.vx_machine.specs.Run.{ready_at}

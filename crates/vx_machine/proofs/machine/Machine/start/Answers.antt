@@ -4,11 +4,11 @@ use Rattle.vx_strategy.specs.StrategyView.{strategy_data}
 use Rattle.vx_sink.specs.ContextView.{allowed_in, is_marked}
 use Rattle.vx_machine_ids.specs.Stock.{end_stock}
 use Rattle.vx_machine_ids.proofs.MoveLaws.{owned_right, moved_behind}
-use Rattle.vx_machine_view.specs.State.{no_tasks}
+use Rattle.vx_machine_state.specs.State.{no_tasks}
 use Rattle.vx_machine_view.specs.Machine.{reading}
-use Rattle.vx_machine_nodes.specs.View.{form_of}
-use Rattle.vx_machine_tasks.specs.Stocks.{task_stock}
-use Rattle.vx_machine_tasks.proofs.ReservedSteps.{started_none}
+use Rattle.vx_machine_node.specs.View.{form_of}
+use Rattle.vx_machine_task.specs.Stocks.{task_stock}
+use Rattle.vx_machine_start.proofs.StartRows.{started_none}
 use Rattle.vx_machine.proofs.Going.{begins}
 use Rattle.vx_machine.proofs.MachineMoves.{first_left, second_first}
 use Rattle.vx_machine.proofs.machine.Machine.start.Goals as goal

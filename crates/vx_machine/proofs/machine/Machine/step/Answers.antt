@@ -1,10 +1,10 @@
 use Rattle.std.proofs.Common.{inl, refl}
 use Rattle.vx_machine_ids.proofs.MoveLaws.{moved_none}
 use Rattle.vx_sink.specs.ContextView.{counted}
-use Rattle.vx_machine_nodes.specs.Context.{setting_of}
-use Rattle.vx_machine_tasks.specs.View.{row}
+use Rattle.vx_machine_node.specs.Context.{setting_of}
+use Rattle.vx_machine_task.specs.View.{row}
 use Rattle.vx_machine.specs.Whole.{machine_stock}
-use Rattle.vx_machine_tasks.specs.declared.task.Task.{out-Task}
+use Rattle.vx_machine_task.specs.declared.task.Task.{out-Task}
 use Rattle.vx_machine_nodes.proofs.WriteSteps.{kept_same}
 use Rattle.vx_machine_nodes.proofs.CallSteps.{unasked_self}
 use Rattle.vx_machine.proofs.Remembering.{memory_first}

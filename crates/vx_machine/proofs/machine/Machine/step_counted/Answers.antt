@@ -3,18 +3,18 @@ use Rattle.vx_model.specs.ChunkData.{ChunkData}
 use Rattle.vx_sequence.specs.Universe.{Active}
 use Rattle.vx_machine_ids.specs.Stock.{one}
 use Rattle.vx_machine_ids.proofs.MoveLaws.{owned_right, moved_behind}
-use Rattle.vx_machine_tasks.specs.Stocks.{task_stock}
+use Rattle.vx_machine_task.specs.Stocks.{task_stock}
 use Rattle.vx_machine.specs.Source.{phase_stock}
 use Rattle.vx_machine.specs.Whole.{may_source, machine_ready}
 use Rattle.std.specs.FinMap as fin
 use Rattle.std.proofs.lemmas.Result.{err_from_is_err_and}
-use Rattle.vx_machine_view.specs.State.{no_tasks}
+use Rattle.vx_machine_state.specs.State.{no_tasks}
 use Rattle.vx_machine_view.specs.Machine as whole
-use Rattle.vx_machine_view.specs.Places.{one_if}
+use Rattle.vx_machine_state.specs.Places.{one_if}
 use Rattle.vx_machine.specs.Calls.{reads_at}
 use Rattle.vx_sink.specs.ContextView.{counted as counted_bytes}
-use Rattle.vx_machine_nodes.specs.Context.{setting_of}
-use Rattle.vx_machine_tasks.specs.View.{task_row, row}
+use Rattle.vx_machine_node.specs.Context.{setting_of}
+use Rattle.vx_machine_task.specs.View.{task_row, row}
 use Rattle.vx_machine.specs.View.{phase_of, machine_of}
 use Rattle.vx_machine.proofs.Going.{steps_on}
 use Rattle.vx_machine.proofs.ReadyViews.{own_source, behind_source}
@@ -25,7 +25,7 @@ use Rattle.vx_machine_nodes.proofs.CallSteps.{unasked_self}
 use Rattle.vx_machine.proofs.CallSteps.{stops_as, source_quiet, source_act, source_appends, source_unpressed, none_pressed, source_calls, task_reads, task_stops, reads_behind, none_fewer}
 use Rattle.vx_kept.specs.Kept.{Knows, asked_of, ready_of, kids_of}
 use Rattle.vx_kept.proofs.Asking.{fresh_knows}
-use Rattle.vx_machine_tasks.specs.declared.task.Task.{out-Task}
+use Rattle.vx_machine_task.specs.declared.task.Task.{out-Task}
 use Rattle.vx_machine.proofs.Counting.{source_keeps}
 use Rattle.vx_machine.proofs.machine.Machine.step_counted.Goals as goal
 
@@ -47,11 +47,11 @@ step-requires-clause-there g c =
 
 pub returns-in-Ok-step-clause-moved : goal.returns-in-Ok-step-clause-moved
 returns-in-Ok-step-clause-moved g c =
-    moved_behind (g.O.Order.active c.args.order.now) (g.O.Order.active c.step.new.order) (phase_stock c.args.self.now.phase) (task_stock c.args.self.now.root) (task_stock c.step.new.self) c.requires.owned c.step.ensures.moved
+    moved_behind (g.O.Order.active c.args.order.now) (g.O.Order.active c.step.new.order) (phase_stock c.args.self.now.phase) (task_stock c.args.self.now.root) (task_stock c.step.new.task) c.requires.owned c.step.ensures.moved
 
 pub returns-in-Err-step-clause-moved : goal.returns-in-Err-step-clause-moved
 returns-in-Err-step-clause-moved g c =
-    moved_behind (g.O.Order.active c.args.order.now) (g.O.Order.active c.step.new.order) (phase_stock c.args.self.now.phase) (task_stock c.args.self.now.root) (task_stock c.step.new.self) c.requires.owned c.step.ensures.moved
+    moved_behind (g.O.Order.active c.args.order.now) (g.O.Order.active c.step.new.order) (phase_stock c.args.self.now.phase) (task_stock c.args.self.now.root) (task_stock c.step.new.task) c.requires.owned c.step.ensures.moved
 
 pub returns-in-Err-step-clause-cause : goal.returns-in-Err-step-clause-cause
 returns-in-Err-step-clause-cause g c = act_step c.in-Err-step.error c.in-Err-step.ensures.cause
@@ -112,7 +112,7 @@ returns-in-Ok-step-clause-done g c =
       w.0,
       root_stepped (setting_of c.args.ctx.now image) (fin.keys (g.O.Order.active c.args.order.now)) w.0 (g.B.BatchSource.kind c.args.source.now) (g.O.Order.outlet c.args.order.now) (phase_of m.phase) (task_row m.root no_tasks)
           k (k - c.one-own.result) (behind_source m.phase m.root k c.one-own.result x c.if-picked-own.false) (g.B.BatchSource.to_come c.args.source.now) (g.B.BatchSource.to_come c.args.source.now) refl
-          (g.O.Order.outlet c.step.new.order) (task_row c.step.new.self no_tasks) c.in-Ok-step.did.task c.in-Ok-step.did.action w.1,
+          (g.O.Order.outlet c.step.new.order) (task_row c.step.new.task no_tasks) c.in-Ok-step.did.task c.in-Ok-step.did.action w.1,
     )
 
 pub returns-in-Err-step-clause-refused : goal.returns-in-Err-step-clause-refused

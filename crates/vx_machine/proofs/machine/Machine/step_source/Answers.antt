@@ -1,11 +1,11 @@
 use Rattle.std.proofs.Common.{ap, sym}
-use Rattle.vx_machine_tasks.specs.Stocks.{task_stock}
+use Rattle.vx_machine_task.specs.Stocks.{task_stock}
 use Rattle.vx_machine.specs.Source.{phase_stock}
 use Rattle.vx_machine.proofs.CallSteps.{told_as}
 use Rattle.vx_machine.proofs.MachineMoves.{source_owned, source_moved}
-use Rattle.vx_machine_view.specs.State.{no_tasks}
+use Rattle.vx_machine_state.specs.State.{no_tasks}
 use Rattle.vx_machine.specs.Calls.{reads_at}
-use Rattle.vx_machine_tasks.specs.View.{task_row}
+use Rattle.vx_machine_task.specs.View.{task_row}
 use Rattle.vx_machine.specs.View.{phase_of}
 use Rattle.vx_machine.proofs.SourceSteps.{source_done, source_fails}
 use Rattle.vx_machine.proofs.machine.Machine.step_source.Goals as goal

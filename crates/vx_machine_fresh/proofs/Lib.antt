@@ -1,0 +1,2 @@
+pub mod StartCauses
+pub mod ZoneStarts

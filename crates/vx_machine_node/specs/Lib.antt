@@ -1,0 +1,9 @@
+pub mod Stocks
+pub mod Sizes
+pub mod RunPaths
+pub mod Regrouped
+pub mod Ledger
+pub mod Causes
+pub mod View
+pub mod Context
+pub mod Outcome

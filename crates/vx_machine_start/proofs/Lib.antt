@@ -1,0 +1,7 @@
+pub mod StartWeights
+pub mod CauseSteps
+pub mod StartMoves
+pub mod StartShows
+pub mod StartRows
+pub mod StartKinds
+pub mod StartRooms

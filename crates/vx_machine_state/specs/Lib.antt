@@ -1,0 +1,12 @@
+pub mod Zoned
+pub mod Coder
+pub mod State
+pub mod Start
+pub mod Coding
+pub mod Acts
+pub mod Moves
+pub mod Done
+pub mod Typed
+pub mod Images
+pub mod Places
+pub mod Reserved

@@ -1,0 +1,9 @@
+pub mod TaskParts
+pub mod Readiness
+pub mod Finishing
+pub mod ViewParts
+pub mod Counting
+pub mod ReadyViews
+pub mod ReservedSteps
+pub mod PaidSteps
+pub mod RowSteps

@@ -1,9 +1,0 @@
-use Rattle.vx_machine_tasks.proofs.StartMoves.{idle_stock}
-use Rattle.vx_machine_tasks.proofs.ViewParts.{idle_row}
-use Rattle.vx_machine_tasks.proofs.start.waiting.Goals as goal
-
-pub returns-clause-held : goal.returns-clause-held
-returns-clause-held c = idle_stock _ c.new.ensures.items c.new-2.ensures.items
-
-pub returns-clause-shows : goal.returns-clause-shows
-returns-clause-shows c = λ r. idle_row _ r c.new.ensures.items c.new-2.ensures.items

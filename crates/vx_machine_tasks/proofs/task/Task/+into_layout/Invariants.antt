@@ -1,5 +1,0 @@
-use Rattle.vx_machine_tasks.specs.Sizes.{task_count}
-use Rattle.vx_machine_tasks.proofs.task.Task.+into_layout.Given as goal
-
-abbrev pub decreases-into_layout : goal.decreases-into_layout
-decreases-into_layout l = task_count l.self
