@@ -43,14 +43,18 @@ impl Chunk {
     {
         codes.sound();
         values.sound();
-        let Ok(codes) = Box::new(alloc, codes) else {
-            drop(values);
-            return Err(ChunkError::OutOfMemory);
-        };
-        let values = Box::new(alloc, values)?;
-        Ok(Chunk {
-            node: Node::Dict { codes, values },
-        })
+        match Box::new(alloc, codes) {
+            Ok(codes) => {
+                let values = Box::new(alloc, values)?;
+                Ok(Chunk {
+                    node: Node::Dict { codes, values },
+                })
+            }
+            Err(failed) => {
+                drop((failed, values));
+                Err(ChunkError::OutOfMemory)
+            }
+        }
     }
 
     /// The rows of the parts, joined; takes no memory. `conditions::are_parts` tests the condition.

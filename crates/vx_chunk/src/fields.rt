@@ -70,8 +70,13 @@ impl Chunk {
             drop(self);
             return Err(ChunkError::OutOfMemory);
         };
-        let cells = self.into_cells(alloc)?;
-        Ok(field_columns(alloc, &dtype, cells)?)
+        let Ok(cells) = self.into_cells(alloc) else {
+            drop(dtype);
+            return Err(ChunkError::OutOfMemory);
+        };
+        let fields = field_columns(alloc, &dtype, cells);
+        drop(dtype);
+        Ok(fields?)
     }
 }
 

@@ -2,7 +2,7 @@ use std::alloc::{AllocError, Global};
 use vx_segment_map::SegmentMap;
 
 /// How a tree is shown.
-#[derive(Clone, Copy, Debug)]
+#[derive(Clone, Copy)]
 pub(crate) struct Style<'a> {
     pub(crate) alloc: Global,
     pub(crate) verbose: bool,
@@ -11,7 +11,7 @@ pub(crate) struct Style<'a> {
 }
 
 /// Why a text isn't finished.
-#[derive(Debug, Drop)]
+#[derive(Drop)]
 pub(crate) enum Stop {
     /// The segment of this number is missing.
     NoSegment(u32),

@@ -15,7 +15,7 @@ use vx_json::{member, read_flag, read_numbers};
 use vx_model::{ArrayContext, EncodingId, Text};
 
 /// The keys that have defaults.
-#[derive(Debug, Drop)]
+#[derive(Drop)]
 pub(crate) struct Options {
     pub schedule: Vec<u64>,
     pub encodings: ArrayContext,

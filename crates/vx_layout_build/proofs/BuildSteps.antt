@@ -30,7 +30,8 @@ use Rattle.vx_layout_build.specs.NodeKind.{kind_there, node_kind}
 use Rattle.vx_layout_tree.specs.LayoutView.{seen_layout}
 use Rattle.vx_layout_tree.specs.KidsView.{layout_kids, chunks, fields}
 use Rattle.vx_layout_build.specs.PartsView.{parts_of, one_built, one_depth, children_depth}
-use Rattle.vx_layout_build.specs.OpenView.{Children, rows_ruled, wanted_built, all_built, wanted_depths, framed, open_made}
+use Rattle.vx_layout_build.specs.declared.open.RowsRule.{RowsRule}
+use Rattle.vx_layout_build.specs.OpenView.{Children, rows_ruled, with_rows, wanted_built, all_built, wanted_depths, framed, open_made}
 use Rattle.vx_layout_tree.proofs.KidSteps.{chunks_are, fields_are, fails_by}
 
 -- ---- the kind of a node
@@ -182,10 +183,13 @@ pub ruleset all_rules = (so_far_none, so_far_all, so_far_built, so_far_fails, fi
 pub wanted_fails : (e : LayoutError) (w : Wanted) → Fails e (one_built w.child (ty w.dtype)) → Fails e (wanted_built w)
 wanted_fails e w h = fails_by e (one_built w.child (ty w.dtype)) (wanted_built w) (λ x made. rw made refl) h
 
-pub wanted_rows_fail : (e : LayoutError) (w : Wanted) (l : LayoutData ℕ) → one_built w.child (ty w.dtype) ≡ Ok l → Fails e (rows_ruled w.rows (row_count l)) → Fails e (wanted_built w)
-wanted_rows_fail e w l is h = fails_by e (rows_ruled w.rows (row_count l)) (wanted_built w) (λ x made. rw (is, made) refl) h
+pub wanted_then : (w : Wanted) (l : LayoutData ℕ) → one_built w.child (ty w.dtype) ≡ Ok l → wanted_built w ≡ with_rows w.rows l
+wanted_then w l is = rw is refl
 
-pub wanted_is : (w : Wanted) (l : LayoutData ℕ) → one_built w.child (ty w.dtype) ≡ Ok l → rows_ruled w.rows (row_count l) ≡ Ok tt → wanted_built w ≡ Ok l
-wanted_is w l is rows = rw (is, rows) refl
+pub rows_fail : (e : LayoutError) (rule : RowsRule) (l : LayoutData ℕ) (n : ℕ) → n ≡ row_count l → Fails e (rows_ruled rule n) → Fails e (with_rows rule l)
+rows_fail e rule l n is h = fails_by e (rows_ruled rule n) (with_rows rule l) (λ x made. rw (← is, made) refl) h
 
-pub ruleset wanted_rules = (wanted_fails, wanted_rows_fail, wanted_is)
+pub rows_kept : (rule : RowsRule) (l : LayoutData ℕ) (n : ℕ) → n ≡ row_count l → rows_ruled rule n ≡ Ok tt → with_rows rule l ≡ Ok l
+rows_kept rule l n is rows = rw (← is, rows) refl
+
+pub ruleset row_rules = (rows_fail, rows_kept)

@@ -39,14 +39,10 @@ owned_at [] i l lt is = absurd (omega (arith, lt))
 owned_at (x ∷ ls) zero l lt is = rw (← is) refl
 owned_at (x ∷ ls) (suc i) l lt is = owned_at ls i l (omega (arith, lt)) is
 
-pub kept_same : (ls : List Layout) (i : ℕ) (l : Layout) (t : Ty) → i < length ls → l ≡ get_or ls i l → ty_eq (layout_type (layout_data l)) t ≡ true → child_at (owned_kids (map layout_data ls)) i t ≡ Ok (layout_data l)
-kept_same ls i l t lt is same = rw (owned_at ls i l lt is, same) refl
+pub kept_is : (ls : List Layout) (i : ℕ) (l : Layout) (t : Ty) → i < length ls → l ≡ get_or ls i l → child_at (owned_kids (map layout_data ls)) i t ≡ (owned_kid (layout_data l)).build t
+kept_is ls i l t lt is = rw (owned_at ls i l lt is) refl
 
-pub kept_other : (ls : List Layout) (i : ℕ) (l : Layout) (t : Ty) → i < length ls → l ≡ get_or ls i l → ty_eq (layout_type (layout_data l)) t ≡ false
-    → child_at (owned_kids (map layout_data ls)) i t ≡ Err (child_type (layout_type (layout_data l)) t)
-kept_other ls i l t lt is other = rw (owned_at ls i l lt is, other) refl
-
-pub ruleset kept_rules = (kept_same, kept_other, length-map)
+pub ruleset kept_rules = (length-map)
 
 -- ---- a node
 

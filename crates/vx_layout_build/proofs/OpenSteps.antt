@@ -40,7 +40,7 @@ use Rattle.vx_layout_tree.specs.KidsView.{layout_kids, chunks}
 use Rattle.vx_layout_tree.specs.Views.{Fails}
 use Rattle.vx_layout_tree.specs.ZonedView.{no_columns}
 use Rattle.vx_layout_build.specs.PartsView.{one_kid, one_built, one_depth, parts_of}
-use Rattle.vx_layout_build.specs.OpenView.{Children, rows_ruled, pair_kids, triple_kids, list_kids, column_kids, with_rows, all_built, wanted_depths}
+use Rattle.vx_layout_build.specs.OpenView.{Children, rows_ruled, one_alone, pair_kids, triple_kids, list_kids, column_kids, with_rows, all_built, wanted_depths}
 use Rattle.vx_layout_tree.proofs.KidSteps.{fails_by}
 use Rattle.vx_layout_build.proofs.PartSteps.{count_is, counted}
 
@@ -276,18 +276,25 @@ pub ruleset table_rules = (table_children_fail, table_opens)
 
 -- ---- tables that aren't read
 
-column_go : (x : Made) (zs : List (LayoutData ℕ)) → (x >>= λ a. Ok (a ∷ zs)) ≡ (((x >>= with_rows rules.Any) >>= λ a. Ok (a ∷ [])) >>= λ ls. Ok (ls ++ zs))
+column_go : (x : Made) (zs : List (LayoutData ℕ)) → (x >>= λ a. Ok (a ∷ zs)) ≡ ((x >>= λ a. Ok (a ∷ [])) >>= λ ls. Ok (ls ++ zs))
 column_go (Ok a) zs = refl
 column_go (Err e) zs = refl
 
-pub column_wanted : (ks : List ChildData) (a b : OneChild) (t : DType) (u : Ty) (ws : List Wanted) (zs : List (LayoutData ℕ)) → ks ≡ one_kid a ∷ one_kid b ∷ [] → ws ≡ wanted a t rules.Any ∷ [] → zs ≡ (one_kid b).stands u ∷ []
-    → column_kids ks (ty t) u ≡ (all_built ws >>= λ ls. Ok (ls ++ zs))
-column_wanted ks a b t u ws zs kids all stands = rw (kids, all, stands, one_is a (ty t)) (column_go ((one_kid a).build (ty t)) ((one_kid b).stands u ∷ []))
+pub column_wanted : (ks : List ChildData) (a b : OneChild) (t u : Ty) (ws : List Wanted) (zs : List (LayoutData ℕ)) → ks ≡ one_kid a ∷ one_kid b ∷ [] → all_built ws ≡ one_alone a t → zs ≡ (one_kid b).stands u ∷ []
+    → column_kids ks t u ≡ (all_built ws >>= λ ls. Ok (ls ++ zs))
+column_wanted ks a b t u ws zs kids all stands = rw (kids, all, stands, one_is a t) (column_go ((one_kid a).build t) ((one_kid b).stands u ∷ []))
 
-pub column_depth : (deep : ℕ) (a : OneChild) (t : DType) (ws : List Wanted) → ws ≡ wanted a t rules.Any ∷ [] → one_depth a ≤ deep → wanted_depths ws ≤ deep
-column_depth deep a t ws all x = rw all (omega (arith, x))
+alone_go : (x : Made) → ((x >>= with_rows rules.Any) >>= λ l. Ok (l ∷ [])) ≡ (x >>= λ l. Ok (l ∷ []))
+alone_go (Ok a) = refl
+alone_go (Err e) = refl
 
-pub ruleset column_rules = (column_wanted, column_depth, counted)
+pub alone_built : (a : OneChild) (t : DType) (u : Ty) (ws : List Wanted) → ws ≡ wanted a t rules.Any ∷ [] → ty t ≡ u → all_built ws ≡ one_alone a u
+alone_built a t u ws all same = rw (all, ← same) (alone_go (one_built a (ty t)))
+
+pub alone_depth : (a : OneChild) (t : DType) (ws : List Wanted) → ws ≡ wanted a t rules.Any ∷ [] → wanted_depths ws ≡ one_depth a
+alone_depth a t ws all = rw all (omega arith)
+
+pub ruleset column_rules = (alone_built, alone_depth, counted)
 
 -- children that stand are behind the built ones
 behind : (c : Children) (zs : List (LayoutData ℕ)) (k : Kind) (p : Parts) → ((c >>= λ ls. Ok (ls ++ zs)) >>= layout_of k p) ≡ (c >>= λ ls. Ok (layout k p.dtype p.rows p.segments (lays_of (ls ++ zs))))

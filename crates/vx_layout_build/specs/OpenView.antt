@@ -20,6 +20,9 @@ use Rattle.vx_layout_build.specs.declared.open.Frame.{Frame}
 use Rattle.vx_layout_build.specs.declared.open.Frame.TheVariants as frames
 use Rattle.vx_layout_build.specs.declared.open.Open.{Open}
 use Rattle.vx_layout_tree.specs.declared.children.LayoutChildren.{LayoutChildren}
+use Rattle.vx_layout_tree.specs.declared.parts.LayoutHead.{LayoutHead}
+use Rattle.vx_layout_tree.specs.declared.parts.LayoutParts.{LayoutParts}
+use Rattle.vx_layout_build.specs.declared.one_child.OneChild.{OneChild}
 use Rattle.vx_layout_tree.specs.KidsView.{chunks}
 use Rattle.vx_layout_build.specs.PartsView.{one_built, one_depth}
 use Rattle.vx_layout_tree.specs.Views.{Fails}
@@ -79,11 +82,18 @@ all_built (w ∷ ws) = wanted_built w >>= λ l. all_built ws >>= λ ls. Ok (l �
 abbrev pub column_made : List Wanted → Ty → LayoutChildren → Children
 column_made ws t zones = all_built ws >>= λ ls. Ok (ls ++ chunks t zones)
 
+-- one child by itself, whatever its rows are
+abbrev pub one_alone : OneChild → Ty → Children
+one_alone c t = one_built c t >>= λ l. Ok (l ∷ [])
+
 abbrev pub wanted_depths : List Wanted → ℕ
 wanted_depths [] = 0
 wanted_depths (w ∷ ws) = max (one_depth w.child) (wanted_depths ws)
 
 -- ---- layouts without them
+
+abbrev pub head_of : LayoutParts → LayoutHead
+head_of p = record { row_count = p.row_count; dtype = p.dtype; segment_ids = p.segment_ids }
 
 abbrev pub framed : Frame → List (LayoutData ℕ) → LayoutData ℕ
 framed (frames.List h) ls = headed list_kind h ls

@@ -11,14 +11,14 @@ ghost use Rattle.vx_session.specs.Kinds.{build_kind as kind_built};
 ghost use Rattle.vx_layout_tree.specs.KidsView.{owned_kid};
 ghost use Rattle.vx_layout_tree.specs.LayoutView.{layout_data};
 ghost use Rattle.vx_layout_build.specs.NodeKind.{node_kind, the_kind};
-ghost use Rattle.vx_layout_build.specs.OpenView.{open_made, fits, all_built, wanted_built};
+ghost use Rattle.vx_layout_build.specs.OpenView.{open_made, fits, all_built, wanted_built, with_rows as rows_held};
 ghost use Rattle.vx_layout_build.specs.PartsView.{parts_of, one_built, children_depth};
 ghost use Rattle.vx_layout_tree.specs.Views.{Gives, all_lays};
 
 use crate::alone::{build_chunked, build_flat, build_struct};
 use crate::foreign_nodes::{build_foreign, segment_ids};
 use crate::one_child::OneChild;
-use crate::open::{Open, Wanted, with_built};
+use crate::open::{Open, RowsRule, Wanted, with_built};
 use crate::opened::{open_dict, open_list, open_stats, open_zoned};
 use bytes::Bytes;
 use std::alloc::{AllocError, Global};
@@ -101,8 +101,8 @@ fn parts_of_node(
 {
     let node = node.open(alloc)?;
     let segment_ids = segment_ids(alloc, &node.segments)?;
-    let dtype = dtype.clone()?;
     let scope = scope.clone()?;
+    let dtype = dtype.clone()?;
     let parts = LayoutParts {
         dtype,
         row_count: node.rows,
@@ -143,8 +143,13 @@ fn build_open(alloc: Global, frame: Open) -> Result<Layout, LayoutError>
     ensures { Gives layout_data result (open_made frame) }
 {
     let Open { frame, wanted } = frame;
-    let children = build_all(alloc, wanted)?;
-    Ok(with_built(alloc, frame, children))
+    match build_all(alloc, wanted) {
+        Ok(children) => Ok(with_built(alloc, frame, children)),
+        Err(error) => {
+            drop(frame);
+            Err(error)
+        }
+    }
 }
 
 #[cycle(build)]
@@ -165,9 +170,30 @@ fn build_wanted(alloc: Global, wanted: Wanted) -> Result<Layout, LayoutError>
     ensures { Gives layout_data result (wanted_built wanted) }
 {
     let Wanted { child, dtype, rows } = wanted;
-    let layout = build_one(alloc, child, &dtype)?;
-    rows.check(layout.row_count())?;
-    Ok(layout)
+    match build_one(alloc, child, &dtype) {
+        Ok(layout) => {
+            drop(dtype);
+            with_rows(layout, rows)
+        }
+        Err(error) => {
+            drop(dtype);
+            Err(error)
+        }
+    }
+}
+
+/// The layout, where its rows are as they must be.
+#[tactic(auto, using(crate::proofs::BuildSteps::row_rules))]
+fn with_rows(layout: Layout, rows: RowsRule) -> Result<Layout, LayoutError>
+    ensures { Gives layout_data result (rows_held rows (layout_data layout)) }
+{
+    match rows.check(layout.row_count()) {
+        Ok(()) => Ok(layout),
+        Err(error) => {
+            drop(layout);
+            Err(error)
+        }
+    }
 }
 
 #[cycle(build)]
@@ -187,20 +213,24 @@ fn kept_as(layout: Layout, dtype: &DType) -> Result<Layout, LayoutError>
 {
     match check_type(&layout, dtype) {
         Ok(()) => Ok(layout),
-        Err(error) => Err(error),
+        Err(error) => {
+            drop(layout);
+            Err(error)
+        }
     }
 }
 
 /// Whether the layout is of the type. Refuses `ChildType` where it is of another.
-fn check_type(layout: &Layout, dtype: &DType) -> Result<(), LayoutError>
+pub(crate) fn check_type(layout: &Layout, dtype: &DType) -> Result<(), LayoutError>
     ensures { Gives (λ u. layout_data layout.now) result ((owned_kid (layout_data layout.now)).build (ty dtype.now)) }
 {
     if layout.dtype() == dtype {
         return Ok(());
     }
     let has = layout.dtype().clone()?;
-    Err(LayoutError::ChildType {
-        has,
-        needs: dtype.clone()?,
-    })
+    let Ok(needs) = dtype.clone() else {
+        drop(has);
+        return Err(LayoutError::OutOfMemory);
+    };
+    Err(LayoutError::ChildType { has, needs })
 }

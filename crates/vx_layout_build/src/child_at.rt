@@ -13,7 +13,7 @@ ghost use Rattle.vx_layout_tree.specs.KidsView.{layout_kids, owned_kids, viewed_
 ghost use Rattle.vx_layout_tree.specs.LayoutView.{layout_data};
 ghost use Rattle.vx_layout_tree.specs.Views.{Gives};
 
-use crate::build::build_node;
+use crate::build::{build_node, check_type};
 use crate::child::LayoutChild;
 use vx_layout_bytes::NodeViews;
 use vx_layout_tree::{Layout, LayoutChildren, LayoutError, ViewedChildren};
@@ -94,14 +94,8 @@ fn kept_at<'a>(
     ensures { Gives child_lay result (child_at (owned_kids (map layout_data layouts.now)) index (ty dtype.now)) }
 {
     let layout = &layouts[index as usize];
-    if layout.dtype() == dtype {
-        Ok(LayoutChild::Kept(layout))
-    } else {
-        Err(LayoutError::ChildType {
-            has: layout.dtype().clone()?,
-            needs: dtype.clone()?,
-        })
-    }
+    check_type(layout, dtype)?;
+    Ok(LayoutChild::Kept(layout))
 }
 
 /// The node as a layout of the type.

@@ -45,7 +45,10 @@ impl LayoutEncodingExt for LayoutEncoding {
         metadata: &[u8],
     ) -> Result<Layout, LayoutError> {
         let LayoutDeserializeArgs { parts, context } = args;
-        let metadata = Bytes::copy_from_slice(alloc, metadata)?;
+        let Ok(metadata) = Bytes::copy_from_slice(alloc, metadata) else {
+            drop((parts, context));
+            return Err(LayoutError::OutOfMemory);
+        };
         build_kind(alloc, *self, &context, parts, &metadata)
     }
 }

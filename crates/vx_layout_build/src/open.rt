@@ -85,18 +85,25 @@ pub(crate) fn pair_of(
         (λ v. (pair_kids (layout_kids children) (ty first_type) (ty second_type) rows ≡ all_built v.items) × (wanted_depths v.items ≤ children_depth children) × (length v.items ≡ 2))
         (λ e. Fails e (pair_kids (layout_kids children) (ty first_type) (ty second_type) rows)) }
 {
-    let (first, second) = two(children)?;
-    let first = Wanted {
-        child: first,
-        dtype: first_type,
-        rows: RowsRule::Any,
-    };
-    let second = Wanted {
-        child: second,
-        dtype: second_type,
-        rows,
-    };
-    Ok(vec![in alloc; first, second]?)
+    match two(children) {
+        Ok((first, second)) => {
+            let first = Wanted {
+                child: first,
+                dtype: first_type,
+                rows: RowsRule::Any,
+            };
+            let second = Wanted {
+                child: second,
+                dtype: second_type,
+                rows,
+            };
+            Ok(vec![in alloc; first, second]?)
+        }
+        Err(error) => {
+            drop((first_type, second_type));
+            Err(error)
+        }
+    }
 }
 
 /// Three children, of which the last has these rows and no nulls, and is true or false.
@@ -112,23 +119,30 @@ pub(crate) fn triple_of(
         (λ v. (triple_kids (layout_kids children) (ty first_type) (ty second_type) rows ≡ all_built v.items) × (wanted_depths v.items ≤ children_depth children) × (length v.items ≡ 3))
         (λ e. Fails e (triple_kids (layout_kids children) (ty first_type) (ty second_type) rows)) }
 {
-    let (first, second, third) = three(children)?;
-    let first = Wanted {
-        child: first,
-        dtype: first_type,
-        rows: RowsRule::Any,
-    };
-    let second = Wanted {
-        child: second,
-        dtype: second_type,
-        rows: RowsRule::OneMore(rows),
-    };
-    let third = Wanted {
-        child: third,
-        dtype: flags(),
-        rows: RowsRule::Same(rows),
-    };
-    Ok(vec![in alloc; first, second, third]?)
+    match three(children) {
+        Ok((first, second, third)) => {
+            let first = Wanted {
+                child: first,
+                dtype: first_type,
+                rows: RowsRule::Any,
+            };
+            let second = Wanted {
+                child: second,
+                dtype: second_type,
+                rows: RowsRule::OneMore(rows),
+            };
+            let third = Wanted {
+                child: third,
+                dtype: flags(),
+                rows: RowsRule::Same(rows),
+            };
+            Ok(vec![in alloc; first, second, third]?)
+        }
+        Err(error) => {
+            drop((first_type, second_type));
+            Err(error)
+        }
+    }
 }
 
 /// The type of a validity.

@@ -81,7 +81,6 @@ impl<'a> DepthFirst<'a> {
 }
 
 /// The node, with its children on the stack.
-#[tactic(auto, unfolding(crate::specs::ChildView::child_lay))]
 fn opened<'a>(
     alloc: Global,
     stack: &mut Vec<LayoutChild<'a>>,
@@ -89,15 +88,27 @@ fn opened<'a>(
 ) -> Result<LayoutChild<'a>, AllocError>
     ensures { IfOk result (λ c. (child_lay c ≡ child_lay node.entry) × (stacked (map child_lay stack.new.items) ≡ below (child_lay node.entry) ++ stacked (map child_lay stack.old.items))) }
 {
+    match push_below(alloc, stack, &node) {
+        Ok(()) => Ok(node),
+        Err(error) => {
+            drop(node);
+            Err(error)
+        }
+    }
+}
+
+/// Pushes the node's children, where all can be built.
+#[tactic(auto, unfolding(crate::specs::ChildView::child_lay))]
+fn push_below<'a>(
+    alloc: Global,
+    stack: &mut Vec<LayoutChild<'a>>,
+    node: &LayoutChild<'a>,
+) -> Result<(), AllocError>
+    ensures { IfOk result (λ u. stacked (map child_lay stack.new.items) ≡ below (child_lay node.now) ++ stacked (map child_lay stack.old.items)) }
+{
     match node {
-        LayoutChild::Kept(layout) => {
-            push_kept(alloc, stack, layout)?;
-            Ok(LayoutChild::Kept(layout))
-        }
-        LayoutChild::Built(layout) => {
-            push_copied(alloc, stack, &layout)?;
-            Ok(LayoutChild::Built(layout))
-        }
+        LayoutChild::Kept(layout) => push_kept(alloc, stack, layout),
+        LayoutChild::Built(layout) => push_copied(alloc, stack, layout),
     }
 }
 
@@ -113,7 +124,10 @@ fn push_kept<'a>(
     match layout.children(alloc) {
         Ok(children) => push_all(stack, children),
         Err(LayoutError::OutOfMemory) => Err(AllocError),
-        Err(_) => Ok(()),
+        Err(error) => {
+            drop(error);
+            Ok(())
+        }
     }
 }
 
@@ -129,7 +143,10 @@ fn push_copied(
     match layout.children(alloc) {
         Ok(children) => push_owned(stack, children),
         Err(LayoutError::OutOfMemory) => Err(AllocError),
-        Err(_) => Ok(()),
+        Err(error) => {
+            drop(error);
+            Ok(())
+        }
     }
 }
 

@@ -67,13 +67,13 @@ impl ListLayout {
         ensures { Gives itself result (make_list (ty dtype) (layout_data elements) (layout_data offsets) (option_map layout_data validity)) }
     {
         if !dtype.is_list() {
-            drop((elements, offsets, validity));
+            drop((dtype, elements, offsets, validity));
             return Err(LayoutError::NotAList);
         }
         let needs = validity_count(&dtype);
         let has = present(&validity);
         if has != needs {
-            drop((elements, offsets, validity));
+            drop((dtype, elements, offsets, validity));
             return Err(LayoutError::ChildCount {
                 has: 2 + has,
                 needs: 2 + needs,
@@ -81,14 +81,17 @@ impl ListLayout {
         }
         if !is_primitive(offsets.dtype()) {
             let has: Result<DType, AllocError> = offsets.dtype().clone();
-            drop((elements, offsets, validity));
+            drop((dtype, elements, offsets, validity));
             return Err(LayoutError::ChildType {
                 has: has?,
                 needs: integer_type(),
             });
         }
         let row_count = offsets.row_count().saturating_sub(1);
-        let children = list_children(alloc, elements, offsets, validity)?;
+        let Ok(children) = list_children(alloc, elements, offsets, validity) else {
+            drop(dtype);
+            return Err(LayoutError::OutOfMemory);
+        };
         Ok(ListLayout {
             row_count,
             dtype,

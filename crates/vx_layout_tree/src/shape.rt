@@ -42,12 +42,14 @@ pub(crate) fn column_type(
     ensures { Gives ty result (if ty_eq (layout_type (layout_data zones.now)) (ty needs) then Ok (layout_type (layout_data column.now)) else Err (child_type (layout_type (layout_data zones.now)) (ty needs))) }
 {
     if *zones.dtype() == needs {
+        drop(needs);
         return Ok(column.dtype().clone()?);
     }
-    Err(LayoutError::ChildType {
-        has: zones.dtype().clone()?,
-        needs,
-    })
+    let Ok(has) = zones.dtype().clone() else {
+        drop(needs);
+        return Err(LayoutError::OutOfMemory);
+    };
+    Err(LayoutError::ChildType { has, needs })
 }
 
 /// One where the type is nullable.

@@ -1,7 +1,7 @@
 //! The tree of encodings, as a segment spells it.
 
 /// A node without its children, which are the nodes behind it.
-#[derive(Debug, Drop)]
+#[derive(Drop)]
 pub(crate) struct Node {
     /// The encoding's place in the context.
     pub(crate) index: u16,
@@ -14,14 +14,14 @@ pub(crate) struct Node {
 }
 
 /// The nodes in pre-order, which with their numbers of children are the tree.
-#[derive(Debug, Drop)]
+#[derive(Drop)]
 pub(crate) struct EncodingTree {
     pub(crate) padded: bool,
     pub(crate) nodes: Vec<Node>,
 }
 
 /// A segment without its type.
-#[derive(Debug, Drop)]
+#[derive(Drop)]
 pub(crate) struct RawSegment<'a> {
     pub(crate) tree: EncodingTree,
     /// In the order of their nodes.

@@ -10,7 +10,7 @@ use std::alloc::Global;
 use vx_model::EncodingId;
 
 /// What a segment is read by.
-#[derive(Clone, Copy, Debug)]
+#[derive(Clone, Copy)]
 pub(crate) struct Frame<'a> {
     pub(crate) alloc: Global,
     /// The context: an encoding's index is its place here.
@@ -20,7 +20,7 @@ pub(crate) struct Frame<'a> {
 }
 
 /// Nodes in pre-order, and their buffers in this order.
-#[derive(Clone, Copy, Debug)]
+#[derive(Clone, Copy)]
 pub(crate) struct Rest<'a> {
     pub(crate) nodes: &'a [Node],
     pub(crate) buffers: &'a [&'a [u8]],

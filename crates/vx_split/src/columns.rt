@@ -85,8 +85,14 @@ fn with_validity(alloc: Global, chunk: Chunk) -> Result<Vec<Chunk>, SplitError>
     ensures columns { IfOk result (λ v. v.items ≡ validity_piece chunk ∷ field_pieces (struct_fields (piece_type chunk)) chunk) }
     ensures memory { IfErr result (λ e. e ≡ SplitError.OutOfMemory) }
 {
-    let validity = chunk.validity(alloc)?;
-    let mut columns = chunk.into_fields(alloc)?;
+    let Ok(validity) = chunk.validity(alloc) else {
+        drop(chunk);
+        return Err(SplitError::OutOfMemory);
+    };
+    let Ok(mut columns) = chunk.into_fields(alloc) else {
+        drop(validity);
+        return Err(SplitError::OutOfMemory);
+    };
     columns.insert(0, validity)?;
     Ok(columns)
 }

@@ -108,10 +108,20 @@ fn split_lists(
     ensures refused { IfErr result (IsPast (base + length (all_elements (cells chunk)))) }
 {
     let (elements, offsets, valid) = list_parts(alloc, base, chunk)?;
-    let end = end_of(base, elements.len())?;
-    let places = offset_cells(alloc, first, base, offsets)?;
-    let columns = put_together(alloc, nullable, elements, places, &valid)?;
-    Ok((columns, end))
+    match end_of(base, elements.len()) {
+        Ok(end) => {
+            let Ok(places) = offset_cells(alloc, first, base, offsets) else {
+                drop(elements);
+                return Err(SplitError::OutOfMemory);
+            };
+            let columns = put_together(alloc, nullable, elements, places, &valid)?;
+            Ok((columns, end))
+        }
+        Err(error) => {
+            drop(elements);
+            Err(error)
+        }
+    }
 }
 
 /// The parts of the chunk's lists. Too many elements are told with those before them.
@@ -149,7 +159,10 @@ fn put_together(
     if !nullable {
         return Ok(vec![in alloc; elements, offset_column(places)]?);
     }
-    let validity = validity_column(alloc, valid)?;
+    let Ok(validity) = validity_column(alloc, valid) else {
+        drop(elements);
+        return Err(AllocError);
+    };
     Ok(vec![in alloc; elements, offset_column(places), validity]?)
 }
 

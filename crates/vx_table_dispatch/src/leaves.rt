@@ -65,7 +65,12 @@ pub fn settled(strategy: &Strategy, dtype: &DType) -> Result<Strategy, AllocErro
 {
     let mut found = further(strategy, dtype)?;
     'further: while passes_on(&found, dtype) {
-        found = further(&found, dtype)?;
+        let Ok(next) = further(&found, dtype) else {
+            drop(found);
+            return Err(AllocError);
+        };
+        drop(found);
+        found = next;
     }
     Ok(found)
 }

@@ -9,7 +9,7 @@ use Rattle.vx_session.specs.Views.{scope_of, context}
 use Rattle.vx_layout_tree.specs.LayoutView.{layout_data}
 use Rattle.vx_layout_build.specs.OpenView.{all_built, wanted_depths, fits}
 use Rattle.vx_layout_build.specs.PartsView.{one_built, one_depth, children_depth, parts_of}
-use Rattle.vx_layout_build.proofs.BuildSteps.{so_far, so_far_none, so_far_end, so_far_built, so_far_fails, first_depth, rest_depth, open_fails, open_is, built_count, wanted_fails, wanted_rows_fail, wanted_is, node_kind_fails, node_foreign, node_built}
+use Rattle.vx_layout_build.proofs.BuildSteps.{so_far, so_far_none, so_far_end, so_far_built, so_far_fails, first_depth, rest_depth, open_fails, open_is, built_count, wanted_fails, wanted_then, node_kind_fails, node_foreign, node_built}
 use Rattle.vx_layout_build.proofs.build.+build.Goals as goal
 
 -- ---- all children
@@ -170,17 +170,15 @@ build_open-build_all-requires t c =
 
 pub build_open-with_built-requires : goal.build_open-with_built-requires
 build_open-with_built-requires t c =
-    let count = built_count c.args.frame.wanted.items (map layout_data c.in_ok-children.children.items) c.in_ok-children.ensures in
-    let same : length c.in_ok-children.children.items ≡ length c.args.frame.wanted.items = simp length-map at count in
+    let count = built_count c.args.frame.wanted.items (map layout_data c.in-Ok.children.items) c.in-Ok.ensures in
+    let same : length c.in-Ok.children.items ≡ length c.args.frame.wanted.items = simp length-map at count in
     subst (λ (n : ℕ). fits c.args.frame.frame n) (sym same) c.requires
 
-pub build_open-returns-in_err-children : goal.build_open-returns-in_err-children
-build_open-returns-in_err-children t c =
-    let p = err_from_is_err_and c.from_residual.result c.from_residual.ensures.1 in
-    rw (p.1, p.2) (open_fails _ c.args.frame c.in_err-children.ensures)
+pub build_open-returns-in-Err : goal.build_open-returns-in-Err
+build_open-returns-in-Err t c = open_fails c.in-Err.error c.args.frame c.in-Err.ensures
 
-pub build_open-returns : goal.build_open-returns
-build_open-returns t c = open_is c.args.frame (map layout_data c.in_ok-children.children.items) c.in_ok-children.ensures ∙ ap Ok (sym c.with_built.ensures)
+pub build_open-returns-in-Ok : goal.build_open-returns-in-Ok
+build_open-returns-in-Ok t c = open_is c.args.frame (map layout_data c.in-Ok.children.items) c.in-Ok.ensures ∙ ap Ok (sym c.with_built.ensures)
 
 -- ---- a wanted child
 
@@ -189,15 +187,8 @@ build_wanted-build_one-requires t c =
     let lt : 8 * one_depth c.args.wanted.child + 1 < t = omega (arith, c.decreases) in
     (lt, tt)
 
-pub build_wanted-returns-in_err-layout : goal.build_wanted-returns-in_err-layout
-build_wanted-returns-in_err-layout t c =
-    let p = err_from_is_err_and c.from_residual.result c.from_residual.ensures.1 in
-    rw (p.1, p.2) (wanted_fails _ c.args.wanted c.in_err-layout.ensures)
+pub build_wanted-returns-in-Err : goal.build_wanted-returns-in-Err
+build_wanted-returns-in-Err t c = wanted_fails c.in-Err.error c.args.wanted c.in-Err.ensures
 
-pub build_wanted-returns-in_err-check : goal.build_wanted-returns-in_err-check
-build_wanted-returns-in_err-check t c =
-    let p = err_from_is_err_and c.from_residual-in_err-check.result c.from_residual-in_err-check.ensures.1 in
-    rw (p.1, p.2) (wanted_rows_fail _ c.args.wanted (layout_data c.in_ok-layout.layout) c.in_ok-layout.ensures (rw (← c.row_count.ensures) c.in_err-check.ensures))
-
-pub build_wanted-returns : goal.build_wanted-returns
-build_wanted-returns t c = wanted_is c.args.wanted (layout_data c.in_ok-layout.layout) c.in_ok-layout.ensures (rw (← c.row_count.ensures) c.in_ok-check.ensures)
+pub build_wanted-returns-in-Ok : goal.build_wanted-returns-in-Ok
+build_wanted-returns-in-Ok t c = rw (wanted_then c.args.wanted (layout_data c.in-Ok.layout) c.in-Ok.ensures) c.with_rows.ensures

@@ -9,12 +9,12 @@ pub put_together-requires : goal.put_together-requires
 put_together-requires c =
     let cs = cells c.args.chunk in
     let count : c.len.result ≡ length (all_elements cs) = rw c.in_ok-elements.ensures.elements at c.len.ensures.rows in
-    let lt : c.args.base + length (all_elements cs) < 2 ^ 64 = omega (arith, c.in_ok-end.ensures.fits) in
+    let lt : c.args.base + length (all_elements cs) < 2 ^ 64 = omega (arith, c.in-Ok.ensures.fits) in
     let rows : length c.in_ok-elements.offsets.items ≡ suc (length cs) = ap length c.in_ok-elements.ensures.offsets ∙ ap suc (length-ends 0 cs) in
     let many : suc (length cs) < 2 ^ 64 = omega (arith, c.in_ok-elements.offsets.ok.0) in
-    rw (c.in_ok-places.ensures, c.in_ok-elements.ensures.offsets, entries_behind c.args.first c.args.base cs) (entries_fit c.args.first c.args.base cs lt many)
+    rw (c.in-Ok-offset_cells.ensures, c.in_ok-elements.ensures.offsets, entries_behind c.args.first c.args.base cs) (entries_fit c.args.first c.args.base cs lt many)
 
-pub returns-clause-columns : goal.returns-clause-columns
-returns-clause-columns c =
+pub returns-in_ok-columns-in-Ok-clause-columns : goal.returns-in_ok-columns-in-Ok-clause-columns
+returns-in_ok-columns-in-Ok-clause-columns c =
     let cs = cells c.args.chunk in
-    rw (c.in_ok-columns.ensures, c.in_ok-elements.ensures.elements, c.in_ok-places.ensures, c.in_ok-elements.ensures.offsets, entries_behind c.args.first c.args.base cs, c.deref.ensures.value, c.in_ok-elements.ensures.valid) refl
+    rw (c.in_ok-columns-in-Ok.ensures, c.in_ok-elements.ensures.elements, c.in-Ok-offset_cells.ensures, c.in_ok-elements.ensures.offsets, entries_behind c.args.first c.args.base cs, c.deref.ensures.value, c.in_ok-elements.ensures.valid) refl

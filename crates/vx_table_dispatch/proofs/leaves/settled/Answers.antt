@@ -10,12 +10,12 @@ further-init c = ap (λ w. settled w (ty c.args.dtype.now)) c.in_ok-found.ensure
 
 pub further-smaller : goal.further-smaller
 further-smaller c =
-    subst (λ w. nested w < nested (strategy_data c.further.found)) (sym c.in_ok-found-2.ensures)
+    subst (λ w. nested w < nested (strategy_data c.further.found)) (sym c.in-Ok.ensures)
     (fewer (strategy_data c.further.found) (ty c.args.dtype.now) (sym c.passes_on.ensures ∙ c.further-test.true))
 
 pub further-preserved : goal.further-preserved
 further-preserved c =
-    ap (λ w. settled w (ty c.args.dtype.now)) c.in_ok-found-2.ensures ∙ one_more (strategy_data c.further.found) (ty c.args.dtype.now) ∙ c.further.invariant
+    ap (λ w. settled w (ty c.args.dtype.now)) c.in-Ok.ensures ∙ one_more (strategy_data c.further.found) (ty c.args.dtype.now) ∙ c.further.invariant
 
 pub returns : goal.returns
 returns c = sym (itself (strategy_data c.further.found) (ty c.args.dtype.now) (sym c.passes_on.ensures ∙ c.further-test.false)) ∙ c.further.invariant
