@@ -18,14 +18,13 @@ use Rattle.vx_machine_steps.specs.Laws.{JoinsFree}
 use Rattle.vx_machine_promises.specs.Write.{Write, Future, Answer, planned}
 use Rattle.vx_machine_promises.specs.Reached.{Reached}
 use Rattle.vx_machine_promises.specs.Promises.{StartIsReached, StepIsReached}
-use Rattle.vx_machine_view.specs.Images.{Careful}
-use Rattle.vx_machine_view.specs.State.{Tasks, no_tasks, task_then}
-use Rattle.vx_machine_view.specs.Acts.{do_act}
-use Rattle.vx_machine_view.specs.Moves.{Step, may_act, own_step, in_kids, in_rest, steps}
+use Rattle.vx_machine_state.specs.Images.{Careful}
+use Rattle.vx_machine_state.specs.State.{Tasks, no_tasks, task_then}
+use Rattle.vx_machine_state.specs.Acts.{do_act}
+use Rattle.vx_machine_state.specs.Moves.{Step, may_act, own_step, in_kids, in_rest, steps}
 use Rattle.vx_machine_view.specs.Shows.{Counted, Stage, Done, Shows}
 use Rattle.vx_machine_view.specs.Machine.{Machine, may_source, WholeStep, source_step, in_root, whole_steps, machine_ids}
-use Rattle.vx_machine_view.specs.Start.{first_indices}
-use Rattle.vx_machine_view.specs.Built.{is_built}
+use Rattle.vx_machine_state.specs.Start.{first_indices}
 use Rattle.vx_machine_view.specs.Whole.{ShowsMachine, form_of, root_depth}
 use Rattle.vx_machine_view.specs.Underway.{Showing, ready_steps}
 use Rattle.vx_machine_view.proofs.Wholes.{free_below}
@@ -36,7 +35,7 @@ use Rattle.vx_machine_runs.proofs.Covers.{counted_by}
 use Rattle.vx_machine_runs.proofs.Doing.{did}
 use Rattle.vx_machine_runs.proofs.Ending.{none_later, open_none}
 use Rattle.vx_machine_runs.proofs.Reaching.{leads}
-use Rattle.vx_machine_ran.proofs.Bounded.{run_bounded}
+use Rattle.vx_machine_runs.proofs.Bounding.{run_bounded}
 use Rattle.vx_machine_ran.proofs.OwnJoins.{own_joins, idle_joins, source_joins}
 
 module _ (s : Setting) (number : List ℕ → ℕ) (next : ℕ) (all : List (List ℕ)) where
@@ -124,10 +123,10 @@ whole_did g number next all a f m t sh jf w i n k =
     all_of (inr x) = lift (of_root (from_map (in_root m.phase) w (steps g.setting all next m.root) x))
 
 -- in a run by the schedule, in which all that was counted fits 64 bits, so do the rows that are joined next
-pub joins_fit : StartIsReached → StepIsReached → (g : Write) (first : ℕ) (ns : List Note) (y : Stand) → Careful g.setting → is_built g.way ≡ true → start_fault g.setting g.way g.type g.mark ≡ None
+pub joins_fit : StartIsReached → StepIsReached → (g : Write) (first : ℕ) (ns : List Note) (y : Stand) → Careful g.setting → start_fault g.setting g.way g.type g.mark ≡ None
     → AllBelow (2 ^ 64) (first_indices (form_of g) g.mark root_eof) → PickedBy g.schedule ns → (l : Led g first (outset g) ns y) → CountsBelow (2 ^ 64) g first (outset g) ns y l
     → (told : Answer) (k : ℕ) (w : WholeStep) → nth (ready_steps g first y.history told y.machine) k ≡ Some w → (n : ℕ) → In n w.joined → n < 2 ^ 64
-joins_fit began reached g first ns y law b s starts p l c told k w at n i = on (run_bounded began reached (2 ^ 64) g first ns y law b s starts p l c (none_later y.heard) (open_none y.heard))
+joins_fit began reached g first ns y law s starts p l c told k w at n i = on (run_bounded began reached (2 ^ 64) g first ns y law s starts p l c (none_later y.heard) (open_none y.heard))
   where
     on : (r : Reached g y.taken (none_later y.heard) ns y.history (tracked g y)) × (Showing g first y.taken y.machine (none_later y.heard) r.tree × AllBelow (2 ^ 64) (did r.tree)) → n < 2 ^ 64
     on (r, (shown, below)) = by (whole_did g (number_of (planned g y.taken (none_later y.heard)).pairs first) (first + length y.history) (machine_ids y.machine) told (none_later y.heard) y.machine r.tree shown

@@ -18,14 +18,14 @@ use Rattle.vx_machine_turns.specs.Fuels.{Fuel}
 use Rattle.vx_machine_steps.specs.Tree.{Tree}
 use Rattle.vx_machine_steps.specs.Moves.{all_paths, all_over}
 use Rattle.vx_machine_promises.specs.Write.{Answer, unasked, came, over}
-use Rattle.vx_machine_view.specs.Zoned.{Zoner, Zones}
+use Rattle.vx_machine_state.specs.Zoned.{Zoner, Zones}
 use Rattle.vx_machine_view.specs.Zoning.{put_each, zones_left}
-use Rattle.vx_machine_view.specs.State.{fold_runs, Next, shut_kids, join_kids, Mind, no_chunk, one_chunk, by_chunk, by_column, by_list, by_block, by_size, as_one, by_image, as_is, by_probe, asking, by_run, by_zone, ending, passing, made, Desk, Tasks}
-use Rattle.vx_machine_view.specs.Acts.{count, layouts_in, column_count, probed, take_chunk, end_columns, end_lists, end_zones, take_end, do_take, do_act, puts, hand_all}
-use Rattle.vx_machine_view.specs.Coder.{Coder, coder_of}
-use Rattle.vx_machine_view.specs.Coding.{Deed, puts_codes, puts_values, deed_nexts, runs_laid}
+use Rattle.vx_machine_state.specs.State.{fold_runs, Next, shut_kids, join_kids, Mind, no_chunk, one_chunk, by_chunk, by_column, by_list, by_block, by_size, as_one, by_image, as_is, by_probe, asking, by_run, by_zone, ending, passing, made, Desk, Tasks}
+use Rattle.vx_machine_state.specs.Acts.{count, layouts_in, column_count, probed, take_chunk, end_columns, end_lists, end_zones, take_end, do_take, do_act, puts, hand_all}
+use Rattle.vx_machine_state.specs.Coder.{Coder, coder_of}
+use Rattle.vx_machine_state.specs.Coding.{Deed, puts_codes, puts_values, deed_nexts, runs_laid}
 use Rattle.vx_machine_view.specs.Deeds.{deed_acts, run_types, Going}
-use Rattle.vx_machine_view.specs.Moves.{all_made, may_act}
+use Rattle.vx_machine_state.specs.Moves.{all_made, may_act}
 use Rattle.vx_machine_view.specs.Shows.{Counted, Stage, waits_first, waits_end, appends, splits, gathers_all, hands, hands_lists, shuts, joins_columns, regroups_rows, regroups_chunks, collects, presses, pressed, lets_out, asks_first, probes, falls_back, cuts, last_cuts, passes_on, passed, records_zones, closes_zones, joins_data, joins_zones, Shows, types_of}
 use Rattle.vx_machine_view.specs.Machine.{Phase, reading, giving, closing, finished, source_step}
 use Rattle.vx_machine_view.proofs.Words.{and_left}

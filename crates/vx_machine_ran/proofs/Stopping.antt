@@ -39,7 +39,7 @@ use Rattle.vx_machine_runs.specs.Answers.{TakenAlone}
 use Rattle.vx_machine_runs.specs.Tracked.{Comes, TrackerComes}
 use Rattle.vx_machine_runs.specs.Traces.{NotesAreFirst, ReadyIsMore, RefusalIsLast, MisfitIsLast}
 use Rattle.vx_machine_promises.specs.Promises.{StartIsReached, StepIsReached}
-use Rattle.vx_machine_view.specs.Start.{first_indices}
+use Rattle.vx_machine_state.specs.Start.{first_indices}
 use Rattle.vx_machine_view.specs.Whole.{Asks, form_of}
 use Rattle.vx_machine_runs.specs.Numbers.{AllBelow}
 use Rattle.vx_machine_runs.proofs.Asking.{asked_before_end, taken_are_typed, answer_of_schema, all_of_schema}
@@ -58,7 +58,6 @@ use Rattle.vx_machine.specs.TaskActing.{CallFails}
 use Rattle.vx_machine.specs.Run.{At, ready_at, tracker_by, Stops}
 use Rattle.vx_machine_ran.specs.Ran.{write_by, OwnSink, Onward}
 use Rattle.vx_machine_ran.specs.Runs.{Halts, StoppedHalts}
-use Rattle.vx_machine.proofs.BuiltSteps.{all_built}
 use Rattle.vx_machine.proofs.StepShows.{asks_not, tells_memory}
 use Rattle.vx_machine_ran.specs.RefusedAct.{NextAct, IsRead, IsOwn, RefusedThere}
 use Rattle.vx_machine.specs.Progress.{ShowsNote}
@@ -68,7 +67,7 @@ use Rattle.vx_machine_ran.specs.Written.{AreFirst, NeedsNumber, HasCause, AskedI
 use Rattle.vx_machine.proofs.Fewness.{Few, whole_few}
 use Rattle.vx_machine.proofs.Going.{asking}
 use Rattle.vx_machine_ran.proofs.Leading.{told_one, runs_are_led}
-use Rattle.vx_machine_ran.proofs.Bounded.{counts_so}
+use Rattle.vx_machine_runs.proofs.Bounding.{counts_so}
 use Rattle.vx_machine_ran.proofs.Joined.{joins_fit}
 use Rattle.vx_machine_ran.proofs.Refusing.{RefusedBy, SameAct, is_own, own_read, next_act}
 use Rattle.vx_machine_ran.proofs.Tracing.{reads_are, traced_front, refused_last, misfit_last}
@@ -266,7 +265,7 @@ module _ (ctx : LayoutWriterContext) (image : ℕ → ChunkData → ChunkData) (
 
   -- the rows that are joined next fit 64 bits
   joined_fit : (told : Answer) (k : ℕ) (w : WholeStep) → nth (ready_steps h first x.history told x.machine) k ≡ Some w → (n : ℕ) → In n w.joined → n < 2 ^ 64
-  joined_fit told k w at n i = joins_fit began reached (scheduled g schedule) first o.notes x law (all_built way) clean starts o.picked (led_so g first schedule (outset g) x o.notes o.led)
+  joined_fit told k w at n i = joins_fit began reached (scheduled g schedule) first o.notes x law clean starts o.picked (led_so g first schedule (outset g) x o.notes o.led)
       (counts_so (2 ^ 64) g first schedule (outset g) x o.notes o.led o.counts) told k w at n i
 
   -- what the tracker counts there

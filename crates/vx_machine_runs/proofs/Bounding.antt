@@ -36,7 +36,7 @@ use Rattle.vx_machine_runs.proofs.Reaching.{leads, reads, as_ready, move_of}
 use Rattle.vx_machine_runs.proofs.Stepping.{open_before, some_same, asks_so, start_tracked, evened, picks_more, places, places_are_picks, led_so}
 
 -- the write is under way there, and all that its tasks have counted is below this
-abbrev Bounded : ℕ → Write → ℕ → List Note → Stand → Type 0
+abbrev pub Bounded : ℕ → Write → ℕ → List Note → Stand → Type 0
 Bounded most g first seen x = Underway (λ f t. Showing g first x.taken x.machine f t × AllBelow most (did t)) g x.taken x.heard seen x.history (tracked g x)
 
 start_bounded : StartIsReached → (most : ℕ) (g : Write) (first : ℕ) → start_fault g.setting g.way g.type g.mark ≡ None → AllBelow most (first_indices (form_of g) g.mark root_eof)
@@ -88,10 +88,15 @@ module _ (reached : StepIsReached) (most : ℕ) (g : Write) (first : ℕ) (law :
       subst (λ z. Bounded most g first z y) (append_assoc seen (n ∷ []) ns)
       (led_bounded (seen ++ (n ∷ [])) ns l.0 y (subst (λ z. PickedBy z ns) (sym (picks_more seen n g.schedule)) p.1) l.2 c.1 now)
 
+-- so it is of a whole run by the schedule
+pub run_bounded : StartIsReached → StepIsReached → (most : ℕ) (g : Write) (first : ℕ) (ns : List Note) (y : Stand) → Careful g.setting → start_fault g.setting g.way g.type g.mark ≡ None
+    → AllBelow most (first_indices (form_of g) g.mark root_eof) → PickedBy g.schedule ns → (l : Led g first (outset g) ns y) → CountsBelow most g first (outset g) ns y l → Bounded most g first ns y
+run_bounded began reached most g first ns y law s starts p l c = led_bounded reached most g first law [] ns (outset g) y p l c (start_bounded began most g first s starts)
+
 -- ---- the end
 
 -- what is counted depends on no schedule
-counts_so : (most : ℕ) (g : Write) (first : ℕ) (picks : List ℕ) (x y : Stand) (ns : List Note) (l : Led g first x ns y) → CountsBelow most g first x ns y l
+pub counts_so : (most : ℕ) (g : Write) (first : ℕ) (picks : List ℕ) (x y : Stand) (ns : List Note) (l : Led g first x ns y) → CountsBelow most g first x ns y l
     → CountsBelow most (scheduled g picks) first x ns y (led_so g first picks x y ns l)
 counts_so most g first picks x y [] l c = tt
 counts_so most g first picks x y (n ∷ ns) l c = (c.0, counts_so most g first picks l.0 y ns l.2 c.1)

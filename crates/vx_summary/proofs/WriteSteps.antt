@@ -21,7 +21,7 @@ use Rattle.vx_generator_laws.specs.TableWrite.{all_encodings, table_setting, Tab
 use Rattle.vx_sink.specs.ContextView.{listed, allowed_in}
 use Rattle.vx_sink.specs.declared.context.LayoutWriterContext.{LayoutWriterContext}
 use Rattle.vx_setting.specs.Setting.{real}
-use Rattle.vx_machine_view.specs.Images.{images_of}
+use Rattle.vx_machine_state.specs.Images.{images_of}
 use Rattle.vx_compressor_spec.specs.TableImage.{table_image}
 use Rattle.vx_model.specs.declared.encoding.EncodingId.{EncodingId}
 use Rattle.vx_write.specs.Context.{setting_of}
