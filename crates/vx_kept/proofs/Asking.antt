@@ -47,7 +47,7 @@ module _ (all : List (List ℕ)) where
   fresh_any every i [] (x ∷ xs) no_tasks f = absurd f
   fresh_any every i [] xs (task_then c ks r) f = absurd f
   fresh_any every i (n ∷ ns) [] (task_then c ks r) f = absurd f
-  fresh_any every i (n ∷ ns) (x ∷ xs) (task_then c ks r) f = ⊎_elim (λ h. absurd h) (λ s. (s every, inr s, fresh_any every (suc i) ns xs r f.2)) f.1
+  fresh_any every i (n ∷ ns) (x ∷ xs) (task_then c ks r) f = (f.1 (λ h. h) every, λ h. f.1 (λ k. k), fresh_any every (suc i) ns xs r f.2)
 
   -- the counts of all children are those of what is below the task
   pub counted_each : (ks : Tasks) → counted (sum (ready_each all ks)) ≡ counted (ready_in all ks)
@@ -96,7 +96,7 @@ going_start all asked i (n ∷ ns) [] ks e k = absurd k
 going_start all asked i [] (x ∷ xs) ks e k = absurd k
 going_start all asked i (n ∷ ns) (x ∷ xs) no_tasks e k = absurd k
 going_start all asked i (n ∷ ns) (x ∷ xs) (task_then c ks r) e k =
-    (⊎_elim (λ h. inl h) (λ s. inr (s all, inr s)) k.0, k.1, going_start all asked (suc i) ns xs r (omega (arith, e)) k.2)
+    (λ h. (k.0 h all, λ l. k.0 h), k.1, going_start all asked (suc i) ns xs r (omega (arith, e)) k.2)
 
 module _ (all : List (List ℕ)) where
   pub going_done : (later : List ℕ) (i : ℕ) (ns : List ℕ) (xs : List Counts) (ks : Tasks) → GoingFrom all [] later i ns xs ks → FreshFrom all later i ns xs ks
@@ -105,7 +105,7 @@ module _ (all : List (List ℕ)) where
   going_done later i [] (x ∷ xs) no_tasks g = absurd g
   going_done later i [] xs (task_then c ks r) g = absurd g
   going_done later i (n ∷ ns) [] (task_then c ks r) g = absurd g
-  going_done later i (n ∷ ns) (x ∷ xs) (task_then c ks r) g = ⊎_elim (λ h. absurd h) (λ s. (s.0, s.1, going_done later (suc i) ns xs r g.2)) g.0
+  going_done later i (n ∷ ns) (x ∷ xs) (task_then c ks r) g = ((g.0 (λ h. h)).0, (g.0 (λ h. h)).1, going_done later (suc i) ns xs r g.2)
 
   -- as many are counted as there are
   pub going_lengths : (asked later : List ℕ) (i : ℕ) (ns : List ℕ) (xs : List Counts) (ks : Tasks) → GoingFrom all asked later i ns xs ks → (length ns ≡ count ks) × (length xs ≡ count ks)
@@ -117,14 +117,15 @@ module _ (all : List (List ℕ)) where
   going_lengths asked later i (n ∷ ns) (x ∷ xs) (task_then c ks r) g = (ap suc (going_lengths asked later (suc i) ns xs r g.2).0, ap suc (going_lengths asked later (suc i) ns xs r g.2).1)
 
   module _ (asked bsked later mater : List ℕ) (more : Within later mater) where
-    or_later : (i n : ℕ) (x : Counts) (c : Desk) (ks : Tasks) → In i later ⊎ Steady n x c ks → In i mater ⊎ Steady n x c ks
-    or_later i n x c ks s = ⊎_elim (λ h. inl (more i h)) (λ s. inr s) s
+    or_later : (i n : ℕ) (x : Counts) (c : Desk) (ks : Tasks) → (¬ In i later → Steady n x c ks) → ¬ In i mater → Steady n x c ks
+    or_later i n x c ks s h = s (λ k. h (more i k))
 
     -- another one than that at the place
-    other : (p i n : ℕ) (x : Counts) (c : Desk) (ks : Tasks) → Within asked (p ∷ bsked) → (i ≡ p → ⊥) → In i asked ⊎ (((n ≡ ready_at all c ks) × Fresh all x ks) × (In i later ⊎ Steady n x c ks))
-        → In i bsked ⊎ (((n ≡ ready_at all c ks) × Fresh all x ks) × (In i mater ⊎ Steady n x c ks))
-    other p i n x c ks w d (inl h) = ⊎_elim (λ e. absurd (d e)) (λ k. inl k) (w i h)
-    other p i n x c ks w d (inr s) = inr (s.0, or_later i n x c ks s.1)
+    other : (p i n : ℕ) (x : Counts) (c : Desk) (ks : Tasks) → Within asked (p ∷ bsked) → (i ≡ p → ⊥) → (¬ In i asked → ((n ≡ ready_at all c ks) × Fresh all x ks) × (¬ In i later → Steady n x c ks))
+        → ¬ In i bsked → ((n ≡ ready_at all c ks) × Fresh all x ks) × (¬ In i mater → Steady n x c ks)
+    other p i n x c ks w d g h =
+        let s : ((n ≡ ready_at all c ks) × Fresh all x ks) × (¬ In i later → Steady n x c ks) = g (λ k. ⊎_elim d h (w i k)) in
+        (s.0, or_later i n x c ks s.1)
 
     -- those behind it, or in front of it
     pub going_past : (p i : ℕ) (ns : List ℕ) (xs : List Counts) (ks : Tasks) → Within asked (p ∷ bsked) → (p < i) ⊎ (i + count ks ≤ p) → GoingFrom all asked later i ns xs ks → GoingFrom all bsked mater i ns xs ks
@@ -150,9 +151,9 @@ module _ (all : List (List ℕ)) where
     going_ask zero m y d js p i (n ∷ ns) (x ∷ xs) (task_then c ks r) e w k s g =
         let q : p ≡ i = omega (arith, e) in
         let f : Fresh all y ks = subst (λ z. Fresh all y z) k.1 s.0.1 in (
-          inr (
+          λ out. (
             (s.0.0 ∙ (λ v. ready_at all (k.0 v) (k.1 v)), f),
-            ⊎_elim (λ h. inl (subst (λ z. In z mater) q h)) (λ h. inr (subst (λ z. Steady m y z ks) k.0 (subst (λ z. Steady m y d z) k.1 h))) s.1,
+            λ l. ⊎_elim (λ h. absurd (l (subst (λ z. In z mater) q h))) (λ h. subst (λ z. Steady m y z ks) k.0 (subst (λ z. Steady m y d z) k.1 h)) s.1,
           ),
           fresh_knows all (asked_of y) 0 (ready_of y) (kids_of y) ks f,
           going_past p (suc i) ns xs r w (inl (omega (arith, q))) g.2,
@@ -191,7 +192,7 @@ going_more all asked bsked later mater v w i [] (x ∷ xs) no_tasks g = absurd g
 going_more all asked bsked later mater v w i [] xs (task_then c ks r) g = absurd g
 going_more all asked bsked later mater v w i (n ∷ ns) [] (task_then c ks r) g = absurd g
 going_more all asked bsked later mater v w i (n ∷ ns) (x ∷ xs) (task_then c ks r) g = (
-  ⊎_elim (λ h. inl (v i h)) (λ s. inr (s.0, ⊎_elim (λ h. inl (w i h)) (λ t. inr t) s.1)) g.0,
+  λ h. let s : ((n ≡ ready_at all c ks) × Fresh all x ks) × (¬ In i later → Steady n x c ks) = g.0 (λ k. h (v i k)) in (s.0, λ l. s.1 (λ k. l (w i k))),
   g.1,
   going_more all asked bsked later mater v w (suc i) ns xs r g.2,
 )

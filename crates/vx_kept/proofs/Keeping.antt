@@ -46,7 +46,7 @@ knows_more asked bsked i [] [] ks w k = tt
 knows_more asked bsked i (n ∷ ns) [] ks w k = absurd k
 knows_more asked bsked i [] (x ∷ xs) ks w k = absurd k
 knows_more asked bsked i (n ∷ ns) (x ∷ xs) no_tasks w k = absurd k
-knows_more asked bsked i (n ∷ ns) (x ∷ xs) (task_then c ks r) w k = (⊎_elim (λ h. inl (w i h)) (λ s. inr s) k.0, k.1, knows_more asked bsked (suc i) ns xs r w k.2)
+knows_more asked bsked i (n ∷ ns) (x ∷ xs) (task_then c ks r) w k = (λ h. k.0 (λ a. h (w i a)), k.1, knows_more asked bsked (suc i) ns xs r w k.2)
 
 -- from one place on, with the same number
 moved : (p q : ℕ) (asked : List ℕ) (i : ℕ) (ns : List ℕ) (xs : List Counts) (ks : Tasks) → p ≡ q → KnowsFrom (p ∷ asked) i ns xs ks → KnowsFrom (q ∷ asked) i ns xs ks
@@ -59,9 +59,9 @@ give_leaves j it asked i (n ∷ ns) [] ks k = absurd k
 give_leaves j it asked i [] (x ∷ xs) ks k = absurd k
 give_leaves j it asked i (n ∷ ns) (x ∷ xs) no_tasks k = absurd k
 give_leaves zero it asked i (n ∷ ns) (x ∷ xs) (task_then c ks r) k =
-    (inl (inl (omega arith)), k.1, knows_more asked ((i + 0) ∷ asked) (suc i) ns xs r (more_within (i + 0) asked) k.2)
+    (λ h. absurd (h (inl (omega arith))), k.1, knows_more asked ((i + 0) ∷ asked) (suc i) ns xs r (more_within (i + 0) asked) k.2)
 give_leaves (suc j) it asked i (n ∷ ns) (x ∷ xs) (task_then c ks r) k =
-    (⊎_elim (λ h. inl (inr h)) (λ s. inr s) k.0, k.1, moved (suc i + j) (i + suc j) asked (suc i) ns xs (give j it r) (omega arith) (give_leaves j it asked (suc i) ns xs r k.2))
+    (λ out. k.0 (λ a. out (inr a)), k.1, moved (suc i + j) (i + suc j) asked (suc i) ns xs (give j it r) (omega arith) (give_leaves j it asked (suc i) ns xs r k.2))
 
 -- child j's queue closed
 pub shut_leaves : (j : ℕ) (asked : List ℕ) (i : ℕ) (ns : List ℕ) (xs : List Counts) (ks : Tasks) → KnowsFrom asked i ns xs ks → KnowsFrom ((i + j) ∷ asked) i ns xs (shut_at j ks)
@@ -70,9 +70,9 @@ shut_leaves j asked i (n ∷ ns) [] ks k = absurd k
 shut_leaves j asked i [] (x ∷ xs) ks k = absurd k
 shut_leaves j asked i (n ∷ ns) (x ∷ xs) no_tasks k = absurd k
 shut_leaves zero asked i (n ∷ ns) (x ∷ xs) (task_then c ks r) k =
-    (inl (inl (omega arith)), k.1, knows_more asked ((i + 0) ∷ asked) (suc i) ns xs r (more_within (i + 0) asked) k.2)
+    (λ h. absurd (h (inl (omega arith))), k.1, knows_more asked ((i + 0) ∷ asked) (suc i) ns xs r (more_within (i + 0) asked) k.2)
 shut_leaves (suc j) asked i (n ∷ ns) (x ∷ xs) (task_then c ks r) k =
-    (⊎_elim (λ h. inl (inr h)) (λ s. inr s) k.0, k.1, moved (suc i + j) (i + suc j) asked (suc i) ns xs (shut_at j r) (omega arith) (shut_leaves j asked (suc i) ns xs r k.2))
+    (λ out. k.0 (λ a. out (inr a)), k.1, moved (suc i + j) (i + suc j) asked (suc i) ns xs (shut_at j r) (omega arith) (shut_leaves j asked (suc i) ns xs r k.2))
 
 -- more children
 pub add_leaves : (new : Tasks) (asked : List ℕ) (i : ℕ) (ns : List ℕ) (xs : List Counts) (ks : Tasks) → KnowsFrom asked i ns xs ks → KnowsFrom asked i ns xs (add ks new)
@@ -90,17 +90,17 @@ swap_leaves j d js y asked i (n ∷ ns) [] ks h k = absurd k
 swap_leaves j d js y asked i [] (x ∷ xs) ks h k = absurd k
 swap_leaves j d js y asked i (n ∷ ns) (x ∷ xs) no_tasks h k = absurd k
 swap_leaves zero d js y asked i (n ∷ ns) (x ∷ xs) (task_then c ks r) h k =
-    (inl (inl (omega arith)), h, knows_more asked ((i + 0) ∷ asked) (suc i) ns xs r (more_within (i + 0) asked) k.2)
+    (λ out. absurd (out (inl (omega arith))), h, knows_more asked ((i + 0) ∷ asked) (suc i) ns xs r (more_within (i + 0) asked) k.2)
 swap_leaves (suc j) d js y asked i (n ∷ ns) (x ∷ xs) (task_then c ks r) h k =
-    (⊎_elim (λ h. inl (inr h)) (λ s. inr s) k.0, k.1, moved (suc i + j) (i + suc j) asked (suc i) ns (set xs j y) (swap j d js r) (omega arith) (swap_leaves j d js y asked (suc i) ns xs r h k.2))
+    (λ out. k.0 (λ a. out (inr a)), k.1, moved (suc i + j) (i + suc j) asked (suc i) ns (set xs j y) (swap j d js r) (omega arith) (swap_leaves j d js y asked (suc i) ns xs r h k.2))
 
 -- one more is counted
 pub push_leaves : (m : ℕ) (y : Counts) (asked : List ℕ) (i : ℕ) (ns : List ℕ) (xs : List Counts) (ks : Tasks) → ((js : Tasks) → Knows y js) → length ns < count ks → KnowsFrom asked i ns xs ks
     → KnowsFrom ((i + length ns) ∷ asked) i (ns ++ (m ∷ [])) (xs ++ (y ∷ [])) ks
 push_leaves m y asked i [] [] no_tasks h l k = absurd (omega (arith, l))
-push_leaves m y asked i [] [] (task_then c ks r) h l k = (inl (inl (omega arith)), h ks, tt)
+push_leaves m y asked i [] [] (task_then c ks r) h l k = (λ out. absurd (out (inl (omega arith))), h ks, tt)
 push_leaves m y asked i (n ∷ ns) [] ks h l k = absurd k
 push_leaves m y asked i [] (x ∷ xs) ks h l k = absurd k
 push_leaves m y asked i (n ∷ ns) (x ∷ xs) no_tasks h l k = absurd k
 push_leaves m y asked i (n ∷ ns) (x ∷ xs) (task_then c ks r) h l k =
-    (⊎_elim (λ h. inl (inr h)) (λ s. inr s) k.0, k.1, moved (suc i + length ns) (i + suc (length ns)) asked (suc i) (ns ++ (m ∷ [])) (xs ++ (y ∷ [])) r (omega arith) (push_leaves m y asked (suc i) ns xs r h (omega (arith, l)) k.2))
+    (λ out. k.0 (λ a. out (inr a)), k.1, moved (suc i + length ns) (i + suc (length ns)) asked (suc i) (ns ++ (m ∷ [])) (xs ++ (y ∷ [])) r (omega arith) (push_leaves m y asked (suc i) ns xs r h (omega (arith, l)) k.2))

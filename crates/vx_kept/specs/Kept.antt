@@ -1,5 +1,5 @@
 -- What is kept of a task's children: how many were ready of each and below it, as was counted last, and which are to be counted anew.
-use Rattle.std.specs.Prelude.{◌≡◌, ◌⊎◌, ℕ, suc, ◌+◌, ◌-◌, ◌^◌, min, List, [], ◌∷◌}
+use Rattle.std.specs.Prelude.{◌≡◌, ℕ, suc, ◌+◌, ◌-◌, ◌^◌, min, List, [], ◌∷◌}
 use Rattle.vx_path.specs.Lists.{In}
 use Rattle.vx_machine_state.specs.State.{Desk, Tasks, no_tasks, task_then}
 use Rattle.vx_machine_state.specs.Moves.{may_act}
@@ -38,7 +38,7 @@ FreshFrom all asked i [] xs (task_then c ks r) = ⊥
 FreshFrom all asked i (n ∷ ns) [] (task_then c ks r) = ⊥
 FreshFrom all asked i (n ∷ ns) (x ∷ xs) (task_then c ks r) =
     ((n ≡ ready_at all c ks) × FreshFrom all (asked_of x) 0 (ready_of x) (kids_of x) ks)
-    × (In i asked ⊎ ((every : List (List ℕ)) → (n ≡ ready_at every c ks) × FreshFrom every (asked_of x) 0 (ready_of x) (kids_of x) ks))
+    × (¬ In i asked → (every : List (List ℕ)) → (n ≡ ready_at every c ks) × FreshFrom every (asked_of x) 0 (ready_of x) (kids_of x) ks)
     × FreshFrom all asked (suc i) ns xs r
 
 abbrev pub Fresh : List (List ℕ) → Counts → Tasks → Type 0
@@ -48,14 +48,14 @@ Fresh all x ks = FreshFrom all (asked_of x) 0 (ready_of x) (kids_of x) ks
 abbrev pub Steady : ℕ → Counts → Desk → Tasks → Type 0
 Steady n x c ks = (every : List (List ℕ)) → (n ≡ ready_at every c ks) × Fresh every x ks
 
--- Of the children from number i on: each count is steady, or the child is to be counted anew; the last may not be counted yet.
+-- Of the children from number i on: each count is steady, but where the child is to be counted anew; the last may not be counted yet.
 abbrev pub KnowsFrom : List ℕ → ℕ → List ℕ → List Counts → Tasks → Type 0
 KnowsFrom asked i [] [] ks = Unit {0}
 KnowsFrom asked i (n ∷ ns) [] ks = ⊥
 KnowsFrom asked i [] (x ∷ xs) ks = ⊥
 KnowsFrom asked i (n ∷ ns) (x ∷ xs) no_tasks = ⊥
 KnowsFrom asked i (n ∷ ns) (x ∷ xs) (task_then c ks r) =
-    (In i asked ⊎ Steady n x c ks) × KnowsFrom (asked_of x) 0 (ready_of x) (kids_of x) ks × KnowsFrom asked (suc i) ns xs r
+    (¬ In i asked → Steady n x c ks) × KnowsFrom (asked_of x) 0 (ready_of x) (kids_of x) ks × KnowsFrom asked (suc i) ns xs r
 
 abbrev pub Knows : Counts → Tasks → Type 0
 Knows x ks = KnowsFrom (asked_of x) 0 (ready_of x) (kids_of x) ks
@@ -68,4 +68,4 @@ GoingFrom all asked later i [] (x ∷ xs) no_tasks = ⊥
 GoingFrom all asked later i [] xs (task_then c ks r) = ⊥
 GoingFrom all asked later i (n ∷ ns) [] (task_then c ks r) = ⊥
 GoingFrom all asked later i (n ∷ ns) (x ∷ xs) (task_then c ks r) =
-    (In i asked ⊎ (((n ≡ ready_at all c ks) × Fresh all x ks) × (In i later ⊎ Steady n x c ks))) × Knows x ks × GoingFrom all asked later (suc i) ns xs r
+    (¬ In i asked → ((n ≡ ready_at all c ks) × Fresh all x ks) × (¬ In i later → Steady n x c ks)) × Knows x ks × GoingFrom all asked later (suc i) ns xs r
