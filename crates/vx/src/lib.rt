@@ -5,6 +5,7 @@
 pub mod types {
     pub use vx_chunk::{Chunk, ChunkError, conditions};
     pub use vx_chunk_cells::has_storage;
+    pub use vx_encodings::all_encodings;
     pub use vx_field_path::{FieldMask, FieldPath};
     pub use vx_model::{
         ArrayContext, Blob, Cell, ContextError, DType, EncodingId, ExtDType, FieldName, IdTooLarge,

@@ -12,7 +12,7 @@ use Rattle.vx_model.specs.CellData.{CellData, null_cell, bool_cell, int_cell, te
 use Rattle.vx_model.specs.ChunkData.{ChunkData, ChunkList, plain_piece, constant_piece, dict_piece, chunked_piece, list_piece, struct_piece, extension_piece, no_pieces, part, is_dict_type}
 use Rattle.vx_segment_writer.specs.Head.{Head, head_spelling}
 use Rattle.vx_segment_writer.specs.Segment.{buffers, padding_at, laid_out, heads, tree_bytes, segment_bytes, first_of, refused, refused_below, bytes_unless, encode}
-use Rattle.vx_generator_laws.specs.TableWrite.{all_encodings}
+use Rattle.vx_encodings.specs.AllEncodings.{all_encodings}
 use Rattle.vx_generator_laws.proofs.Tame.{bytes_in}
 
 -- ---- all encodings may be used

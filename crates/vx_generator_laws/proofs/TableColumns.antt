@@ -120,7 +120,7 @@ amounts_fed j zero i end = fed_none (primitive I64 true)
 amounts_fed j (suc k) i end =
     fed_more (primitive I64 true) k (min 1000 (end - i)) (under (0 ∷ j ∷ []) 2, plain_piece (primitive I64 true) (map first_of (map others_of (map others_of (rows_from i (min 1000 (end - i))))))) (column 2 (other_columns (other_columns (splits (suc j) k (i + 1000) end)))) (few_rows i end) (amounts i (min 1000 (end - i))) (amounts_fed (suc j) k (i + 1000) end)
 
-rows_length : (i n : ℕ) → length (rows_from i n) ≡ n
+pub rows_length : (i n : ℕ) → length (rows_from i n) ≡ n
 rows_length i zero = refl
 rows_length i (suc n) = ap (λ m. suc m) (rows_length (i + 1) n)
 

@@ -14,7 +14,7 @@ use Rattle.vx_plan.specs.SourcePlan.{plan, batch_items}
 use Rattle.vx_plan.specs.Valid.{Fit, OfSchema, Valid}
 use Rattle.vx_generator.specs.Generated.{table_type, batch_count, batches_from, table_batches}
 use Rattle.vx_generator.specs.TableStrategy.{column_blocks, table_strategy}
-use Rattle.vx_generator_laws.specs.TableWrite.{table_setting, TableIsValid}
+use Rattle.vx_generator_laws.specs.TableWrite.{table_setting, most_rows, TableIsValid}
 use Rattle.vx_generator_laws.proofs.RunSums.{in_all}
 use Rattle.vx_generator_laws.proofs.Tame.{AtMost, most_append, most_up, Tame, tame_up, AllTame, tame_none, tame_more, most_totals}
 use Rattle.vx_generator_laws.proofs.DictPlans.{Ample}
@@ -123,7 +123,7 @@ module _ (s : Setting) (ample : Ample s flat_options) (small : SmallTables s fla
         reserved = h.reserved;
       }
 
-  table_valid : (rows : ℕ) → rows ≤ 1000000 → Valid s table_strategy table_type false 0 0 (table_batches rows)
+  table_valid : (rows : ℕ) → rows ≤ most_rows → Valid s table_strategy table_type false 0 0 (table_batches rows)
   table_valid rows l =
       let few : batch_count rows ≤ 1000 = omega arith in
       let f : Fits (plan s table_strategy table_type false (batch_items 0 (table_batches rows)) true root_eof) =

@@ -17,7 +17,8 @@ use Rattle.vx_machine_state.specs.Images.{images_of}
 use Rattle.vx_zone_spec.specs.ZoneTable.{Filled, state_cell, table_columns, table_piece}
 use Rattle.vx_segment_writer.specs.Segment.{buffers_below, heads_below, encode}
 use Rattle.vx_strategy_spec.specs.StrategyData.{FlatOptions}
-use Rattle.vx_generator_laws.specs.TableWrite.{all_encodings, table_setting}
+use Rattle.vx_encodings.specs.AllEncodings.{all_encodings}
+use Rattle.vx_generator_laws.specs.TableWrite.{table_setting}
 use Rattle.vx_generator_laws.proofs.Sums.{total-append, total_most, total_same}
 use Rattle.vx_generator_laws.proofs.Tame.{bytes_in, bulk}
 use Rattle.vx_generator_laws.proofs.DictPlans.{Ample, mass}

@@ -6,7 +6,8 @@ use Rattle.vx_model.specs.declared.encoding.EncodingId.{EncodingId}
 use Rattle.vx_model.specs.declared.encoding.EncodingId.TheVariants as encodings
 use Rattle.vx_model.specs.Numbers.{encoding_id}
 use Rattle.vx_model.specs.Distinct.{first_repeat}
-use Rattle.vx_job.specs.JobParts.{first_named, all_encodings, distinct}
+use Rattle.vx_encodings.specs.AllEncodings.{all_encodings}
+use Rattle.vx_job.specs.JobParts.{first_named, distinct}
 
 own_name : (e : EncodingId) → first_named (encoding_id e) all_encodings ≡ Some e
 unfolding first_named

@@ -3,9 +3,9 @@ use Rattle.std.specs.Prelude.{ℕ, ◌||◌, Bool, false, if◌then◌else◌, L
 use Rattle.serde_json.specs.Data.{Data}
 use Rattle.serde_json.specs.Find.{as_str}
 use Rattle.vx_model.specs.declared.encoding.EncodingId.{EncodingId}
-use Rattle.vx_model.specs.declared.encoding.EncodingId.TheVariants as encodings
 use Rattle.vx_model.specs.Numbers.{encoding_id}
 use Rattle.vx_model.specs.Distinct.{first_repeat}
+use Rattle.vx_encodings.specs.AllEncodings.{all_encodings}
 use Rattle.vx_session.specs.Ids.{aggregate_ids}
 use Rattle.vx_json.specs.Steps.{given, when}
 use Rattle.vx_json.specs.Values.{all, at, whole, whole_below, or_null, has_members}
@@ -21,9 +21,6 @@ keys = codes "schema" ∷ codes "strategy" ∷ codes "batches" ∷ codes "schedu
 unfoldable pub or_default : {A : Type 0} → A → (Data → Option A) → Option Data → Option A
 or_default x f None = Some x
 or_default x f (Some d) = f d
-
-abbrev pub all_encodings : List EncodingId
-all_encodings = encodings.Plain ∷ encodings.Constant ∷ encodings.Dict ∷ encodings.Chunked ∷ encodings.List ∷ encodings.Struct ∷ encodings.Extension ∷ []
 
 unfoldable pub first_named : List ℕ → List EncodingId → Option EncodingId
 first_named name [] = None

@@ -16,7 +16,8 @@ use Rattle.vx_strategy_json.specs.StrategyText.{strategy_of}
 use Rattle.vx_job.specs.declared.error.Key.{Key}
 use Rattle.vx_job.specs.declared.error.Key.TheVariants as places
 use Rattle.vx_json.specs.Members.{has_only}
-use Rattle.vx_job.specs.JobParts.{keys, or_default, all_encodings, encodings_of, aggregates_of, next_of, FailingCalls, failing, faults_of}
+use Rattle.vx_encodings.specs.AllEncodings.{all_encodings}
+use Rattle.vx_job.specs.JobParts.{keys, or_default, encodings_of, aggregates_of, next_of, FailingCalls, failing, faults_of}
 
 -- how a job is written
 pub record JobOptions : Type 0 where

@@ -1,8 +1,6 @@
 //! How a job is written: the keys that have defaults.
 
-ghost use Rattle.std.specs.Prelude.{◌≡◌, Ok};
 ghost use Rattle.serde_json.specs.View.{view, members_view};
-ghost use Rattle.vx_job.specs.JobParts.{all_encodings};
 ghost use Rattle.vx_job.specs.JobText.{schedule_in, encodings_in, aggregates_in, marked_in, next_in, faults_in, options_in};
 ghost use Rattle.vx_job.specs.JobView.{Gives, faults_view, ids_view, read_view};
 
@@ -11,8 +9,9 @@ use crate::faults::Faults;
 use crate::values::{read_aggregates, read_encodings, read_faults, read_next};
 use serde_json::{Map, Value};
 use std::alloc::Global;
+use vx_encodings::all_encodings;
 use vx_json::{member, read_flag, read_numbers};
-use vx_model::{ArrayContext, EncodingId, Text};
+use vx_model::{ArrayContext, Text};
 
 /// The keys that have defaults.
 #[derive(Drop)]
@@ -43,20 +42,9 @@ pub(crate) fn encodings_in(
     ensures { Gives (λ c. c) result (encodings_in (members_view members.now.entries)) }
 {
     let Some(value) = member(members, "encodings") else {
-        return default_encodings(alloc);
+        return Ok(all_encodings(alloc)?);
     };
     at(Key::Encodings, read_encodings(alloc, value))
-}
-
-/// All, in their default order.
-fn default_encodings(alloc: Global) -> Result<ArrayContext, JobError>
-    ensures { Gives (λ c. c) result (Ok all_encodings) }
-{
-    let ids = Vec::from_slice(alloc, &EncodingId::ALL)?;
-    match ArrayContext::try_new(ids) {
-        Ok(context) => Ok(context),
-        Err(_) => Err(JobError::Wrong(Key::Encodings)),
-    }
 }
 
 #[tactic(auto, using(crate::proofs::JobSteps::at_rules), unfolding(crate::specs::JobText::aggregates_in, crate::specs::JobParts::or_default))]

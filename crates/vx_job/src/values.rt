@@ -5,7 +5,8 @@ ghost use Rattle.serde_json.specs.View.{view};
 ghost use Rattle.vx_model.specs.declared.encoding.EncodingId.{EncodingId};
 ghost use Rattle.vx_json.specs.Values.{all, at, whole};
 ghost use Rattle.vx_session.specs.Ids.{aggregate_ids};
-ghost use Rattle.vx_job.specs.JobParts.{all_encodings, first_named, encoding_of, encodings_of, is_among, id_of, aggregates_of, next_of, faults_of, distinct};
+ghost use Rattle.vx_encodings.specs.AllEncodings.{all_encodings};
+ghost use Rattle.vx_job.specs.JobParts.{first_named, encoding_of, encodings_of, is_among, id_of, aggregates_of, next_of, faults_of, distinct};
 ghost use Rattle.vx_job.specs.JobView.{faults_view, ids_view};
 ghost use Rattle.vx_json.specs.Views.{Gives};
 

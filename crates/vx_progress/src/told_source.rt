@@ -1,6 +1,9 @@
 //! A source that tells of its batches.
 
 ghost use Rattle.std.specs.Prelude.{◌≡◌, ℕ};
+ghost use Rattle.vx_fault.specs.Faults.{Called};
+ghost use Rattle.vx_sink.specs.Source.{source_failed, Falls, GivesNext};
+ghost use Rattle.vx_progress.specs.Telling.{CountsOn, Tells};
 
 use crate::progress::Progress;
 use std::cell::Cell;
@@ -29,6 +32,8 @@ impl<'a, B: BatchSource, P: Progress> ToldSource<'a, B, P> {
         ensures faults { ⟦<ToldSource<'a, B, P> as Fallible>⟧.faults result ≡ B.faults source }
         ensures may_fail { (k : ℕ) → ⟦<ToldSource<'a, B, P> as Fallible>⟧.may_fail result k → B.may_fail source k }
         ensures must_fail { (k : ℕ) → B.must_fail source k → ⟦<ToldSource<'a, B, P> as Fallible>⟧.must_fail result k }
+        ensures counted { (result.batches ≡ 0) × (result.rows ≡ 0) }
+        ensures untold { P.told result.progress ≡ P.told progress }
     {
         ToldSource {
             source,
@@ -60,7 +65,15 @@ impl<B: BatchSource, P: Progress> BatchSource for ToldSource<'_, B, P> {
     }
 
     /// The next batch of the source, of which it tells.
-    fn next(&mut self) -> Result<Option<Chunk>, SourceError> {
+    fn next(&mut self) -> Result<Option<Chunk>, SourceError>
+        ensures kind { B.kind self.new.source ≡ B.kind self.old.source }
+        ensures falls { Falls (B.left self.old.source) (B.left self.new.source) result }
+        ensures batch { GivesNext (B.to_come self.old.source) (B.to_come self.new.source) result }
+        ensures told { Called (B.faults self.old.source) (B.faults self.new.source) (B.may_fail self.old.source) (B.may_fail self.new.source)
+            (B.must_fail self.old.source) (B.must_fail self.new.source) (source_failed result) }
+        ensures counts { CountsOn self.old.batches self.old.rows self.new.batches self.new.rows result }
+        ensures tells { Tells self.new.batches self.new.rows (P.told self.old.progress) (P.told self.new.progress) result }
+    {
         let answer = self.source.next();
         if let Ok(Some(batch)) = &answer {
             self.batches = self.batches.saturating_add(1);

@@ -9,7 +9,7 @@ use Rattle.vx_model.specs.ValueData.{ValueData}
 use Rattle.vx_layout_spec.specs.LayoutTree.{Kind, flat_kind, chunked_kind, struct_kind, list_kind, dict_kind, zoned_kind, unread_zoned_kind, stats_kind, foreign_kind, refused_kind, LayoutData, LayoutList, layout, no_layouts, child, lays_in, children_of, layout_kind, row_count}
 use Rattle.vx_layout_spec.specs.Rows.{and_then, all_there, counted, joined, chunked_rows, kept_rows, under_validity, zipped, has_count, fields_rows, struct_rows, picked, dict_rows, data_rows, kind_rows, rows, each_rows}
 use Rattle.vx_segment_reader.specs.Codec.{segment_codec}
-use Rattle.vx_layout_spec.specs.Refusal.{slot_range}
+use Rattle.vx_layout_spec.specs.Refusal.{Refusal, slot_range}
 use Rattle.vx_layout_tree.specs.Children.{answered, child_in, kind_name, rows_at}
 use Rattle.vx_layout_tree.specs.declared.kind.LayoutKind.{LayoutKind}
 use Rattle.vx_layout_tree.specs.declared.kind.LayoutKind.TheVariants as kinds
@@ -45,6 +45,20 @@ child_below [] i h = absurd (let f : Err (slot_range i 0) ≡ Ok h.0 = h.1 in cc
 child_below (l ∷ ls) zero h = omega arith
 child_below (l ∷ ls) (suc i) h = omega (arith, child_below ls i h)
 
+-- what holds of no layout that is refused holds of those alone that are answered as they are
+module _ (P : LayoutData ℕ → Type 0) (never : (is_flat : Bool) (refusal : Refusal) (t : Ty) (n : ℕ) (names : List ℕ) (ls : LayoutList ℕ) → ¬ P (layout (refused_kind is_flat refusal) t n names ls)) where
+  pub answers : (x : LayoutData ℕ) → P x → answered x ≡ Ok x
+  answers (layout (flat_kind encodings tree) t n names ls) h = refl
+  answers (layout chunked_kind t n names ls) h = refl
+  answers (layout struct_kind t n names ls) h = refl
+  answers (layout list_kind t n names ls) h = refl
+  answers (layout (dict_kind all) t n names ls) h = refl
+  answers (layout (zoned_kind m specs) t n names ls) h = refl
+  answers (layout (unread_zoned_kind metadata) t n names ls) h = refl
+  answers (layout (stats_kind m stats) t n names ls) h = refl
+  answers (layout (foreign_kind id metadata) t n names ls) h = refl
+  answers (layout (refused_kind is_flat refusal) t n names ls) h = absurd (never is_flat refusal t n names ls h)
+
 module _ (look : ℕ → Option (List ℕ)) where
   -- the rows that a node's kind gives, and their number
   record Gives (k : Kind) (t : Ty) (n : ℕ) (names : List ℕ) (ls : LayoutList ℕ) (vs : List ValueData) : Type 0 where
@@ -77,16 +91,7 @@ module _ (look : ℕ → Option (List ℕ)) where
   -- ---- children
 
   built : (x : LayoutData ℕ) → IsSome (rows segment_codec look x) → answered x ≡ Ok x
-  built (layout (flat_kind encodings tree) t n names ls) there = refl
-  built (layout chunked_kind t n names ls) there = refl
-  built (layout struct_kind t n names ls) there = refl
-  built (layout list_kind t n names ls) there = refl
-  built (layout (dict_kind all) t n names ls) there = refl
-  built (layout (zoned_kind m specs) t n names ls) there = refl
-  built (layout (unread_zoned_kind metadata) t n names ls) there = refl
-  built (layout (stats_kind m stats) t n names ls) there = refl
-  built (layout (foreign_kind id metadata) t n names ls) there = refl
-  built (layout (refused_kind is_flat refusal) t n names ls) there = absurd (cc there)
+  built x there = answers (λ l. IsSome (rows segment_codec look l)) (λ is_flat refusal t n names ls h. absurd (let f : false ≡ true = h in cc)) x there
 
   -- a child whose rows are there is there, with these rows, as many as it counts
   pub record Child (ls : List (LayoutData ℕ)) (i : ℕ) : Type 0 where

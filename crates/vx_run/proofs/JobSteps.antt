@@ -1,5 +1,5 @@
 -- What is shown of a job that was written, and of one that was refused.
-use Rattle.std.proofs.Common.{◌≡◌, ℕ, ◌+◌, ◌-◌, ◌≤◌, ◌^◌, ◌&&◌, nat_lt, max, Bool, true, false, List, [], ◌∷◌, ◌++◌, length, Option, Some, None, refl, sym, ap, subst, inl, inr, ◌∙◌, length-append, arith}
+use Rattle.std.proofs.Common.{◌≡◌, ℕ, ◌+◌, ◌-◌, ◌≤◌, ◌^◌, max, Bool, true, false, List, [], ◌∷◌, ◌++◌, length, Option, Some, None, refl, sym, ap, subst, inl, inr, ◌∙◌, length-append, arith}
 use Rattle.std.specs.Prelude.{map, option_map, IsTrue}
 use Rattle.vx_chunk.specs.ChunkView.{piece}
 use Rattle.vx_model.specs.Ty.{Ty}
@@ -13,15 +13,16 @@ use Rattle.vx_plan.specs.PlanData.{Setting}
 use Rattle.vx_plan.specs.SourcePlan.{of_schema, source_values}
 use Rattle.vx_plan.specs.Number.{segments, segment_at}
 use Rattle.vx_plan.specs.Valid.{Valid}
-use Rattle.vx_fault.specs.Counts.{Counts, IsCalm}
+use Rattle.vx_fault.specs.Counts.{IsCalm}
 use Rattle.vx_fault.specs.Fails.{fails_at}
 use Rattle.vx_fault.specs.Faults.{FaultsTold}
-use Rattle.vx_fault.specs.Told.{before_told, then_told}
+use Rattle.vx_fault.specs.Told.{before_told}
 use Rattle.vx_write.specs.Calls.{reads_in, appends_in, calls_in, misfits}
 use Rattle.vx_write.specs.Readable.{IsReadable}
 use Rattle.vx_write.specs.Traced.{Traced}
 use Rattle.vx_write.specs.RefusedAct.{RefusedThere}
 use Rattle.vx_write.specs.Written.{Planned, Wrote, AskedInSteps, Halted}
+use Rattle.vx_summary.proofs.MemoryWrites.{told_all, is_calm, never_listed}
 use Rattle.vx_write_answer.specs.Causes.{is_source_fault, is_sink_fault, is_compress_fault}
 use Rattle.vx_write_answer.specs.declared.step.Step.{Step}
 use Rattle.vx_write_answer.specs.declared.error.WriteError.{WriteError}
@@ -67,16 +68,9 @@ pub same_pieces : (xs : List ChunkData) → map piece xs ≡ xs
 same_pieces [] = refl
 same_pieces (x ∷ xs) = ap (λ (ys : List ChunkData). x ∷ ys) (same_pieces xs)
 
-told_all : {old new : Option (List (List ℕ))} {shown bs : List (List ℕ)} → old ≡ Some [] → new ≡ Some shown → new ≡ then_told old bs → shown ≡ bs
-told_all {shown = shown} {bs = bs} none told stored = let all : Some shown ≡ Some bs = sym told ∙ (stored ∙ ap (λ o. then_told o bs) none) in cc
-
 told_rest : (taken : List ChunkData) (a c : Option (List ChunkData)) (xs : List ChunkData) → a ≡ before_told taken c → a ≡ Some xs → (later : List ChunkData) × (c ≡ Some later)
 told_rest taken a None xs e f = absurd (let g : None ≡ Some xs = sym e ∙ f in cc)
 told_rest taken a (Some later) xs e f = (later, refl)
-
-is_false : (b : Bool) → (b ≡ true → ⊥) → b ≡ false
-is_false false h = refl
-is_false true h = absurd (h refl)
 
 -- no call that passed is one that the job lets fail
 none_fails : (j : JobData) {may_source must_source may_sink must_sink may_press must_press : ℕ → Type 0} {source_before source_now sink_before sink_now press_before press_now : ℕ} (asked appended called : ℕ) (of_source of_sink of_press : Bool)
@@ -177,18 +171,6 @@ is_let errors.CompressFault j asked appended called memory of_source of_sink of_
 is_let errors.OutOfMemory j asked appended called memory of_source of_sink of_press = absurd (let f : true ≡ false = memory in cc)
 is_let e j asked appended called memory of_source of_sink of_press = tt
 
-calm : (b : Bool) (before now : ℕ) → b ≡ false → before ≡ 0 → Counts before now b → IsCalm before now
-calm true before now is none counts = absurd (let f : true ≡ false = is in cc)
-calm false before now is none counts = (counts, omega (arith, none))
-
--- where a job sets no faults, nothing fails
-never_listed : (list : List ℕ) (k : ℕ) → list ≡ [] → IsTrue (fails_at list k) → ⊥
-never_listed list k none h = by_test (nat_lt k (2 ^ 64 - 1)) (rw none at h)
-  where
-    by_test : (b : Bool) → IsTrue (b && false) → ⊥
-    by_test true h = let f : false ≡ true = h in cc
-    by_test false h = let f : false ≡ true = h in cc
-
 -- What a refused write of a job is known by.
 pub record RefusedWrite (j : JobData) (e : WriteError) (s : Setting) (t : Ty) (m : Bool) (first now tracker : ℕ) (a c : Option (List ChunkData)) (old new : Option (List (List ℕ))) (schedule : List ℕ) (steps : List Step)
     (may_source must_source may_sink must_sink may_press must_press : ℕ → Type 0) (source_before source_now sink_before sink_now press_before press_now : ℕ) : Type 0 where
@@ -226,12 +208,9 @@ job_refused j e {s} {t} {m} {first} {now} {tracker} {a} {c} {old} {new} {stand} 
       let_fail = is_let e j (reads_in steps + misfits e) (length stand) (calls_in steps) memory (λ is. (of_source is, within is)) of_sink of_press;
       not_valid = λ no_faults valid.
           (let out = w.complete j.batches start.batches (rw (start.setting, start.schema, start.marked, start.numbers, start.counted) valid)
-          (calm (is_source_fault e) source_before source_now
-          (is_false (is_source_fault e) (λ is. never_listed j.options.faults.source (reads_in steps + misfits e) (ap (λ (f : FailingCalls). f.source) no_faults) (of_source is))) w.failing.source_none w.source.counted)
-          (calm (is_sink_fault e) sink_before sink_now
-          (is_false (is_sink_fault e) (λ is. never_listed j.options.faults.sink (length stand) (ap (λ (f : FailingCalls). f.sink) no_faults) (of_sink is))) w.failing.sink_none w.sink.counted)
-          (calm (is_compress_fault e) press_before press_now
-          (is_false (is_compress_fault e) (λ is. never_listed j.options.faults.compress (calls_in steps) (ap (λ (f : FailingCalls). f.compress) no_faults) (of_press is))) w.failing.compressor_none w.compressor.counted) in
+          (is_calm (is_source_fault e) w.failing.source_none (λ h. never_listed j.options.faults.source (reads_in steps + misfits e) (ap (λ (f : FailingCalls). f.source) no_faults) (w.failing.may_of_source (reads_in steps + misfits e) h)) w.source)
+          (is_calm (is_sink_fault e) w.failing.sink_none (λ h. never_listed j.options.faults.sink (length stand) (ap (λ (f : FailingCalls). f.sink) no_faults) (w.failing.may_of_sink (length stand) h)) sink)
+          (is_calm (is_compress_fault e) w.failing.compressor_none (λ h. never_listed j.options.faults.compress (calls_in steps) (ap (λ (f : FailingCalls). f.compress) no_faults) (w.failing.may_of_compressor (calls_in steps) h)) w.compressor) in
           let f : true ≡ false = ap is_memory (sym out) ∙ memory in cc);
     }
 

@@ -1,4 +1,5 @@
 mod RunSteps
+mod Promises
 mod ShapeSteps
 mod TableSteps
 mod JobSteps

@@ -17,7 +17,9 @@ use Rattle.vx_prune_laws.specs.Statements.{IsPrunable}
 use Rattle.vx_report.specs.declared.zone_text.TableRows.{TableRows}
 use Rattle.vx_report.specs.ZoneText.{ZoneTable, table_of, zone_tables, tables_below}
 use Rattle.vx_report.specs.TableView.{rows_of, AreTables}
-use Rattle.vx_run.specs.Tables.{OwnThere, TablesThere, AllThere, table_rows, zone_length, own_tables, tables_in, tables_at, HasChild, IsRead, AreRead, ReadsOn}
+use Rattle.vx_row_count.specs.Counting.{HasChild}
+use Rattle.vx_row_count.proofs.CountSteps.{answers}
+use Rattle.vx_run.specs.Tables.{OwnThere, TablesThere, AllThere, table_rows, zone_length, own_tables, tables_in, tables_at, IsRead, AreRead, ReadsOn}
 use Rattle.vx_run.proofs.ShapeSteps.{OfWrite, Shaped, AllShaped}
 
 -- ---- tables of what is written
@@ -63,22 +65,13 @@ module _ (s : Setting) (look : ℕ → Option (List ℕ)) (codec : s.codec ≡ s
 -- ---- the children
 
 module _ (look : ℕ → Option (List ℕ)) where
-  answers : (l : LayoutData ℕ) → TablesThere look l → answered l ≡ Ok l
-  answers (layout (flat_kind encodings tree) t n names ls) there = refl
-  answers (layout chunked_kind t n names ls) there = refl
-  answers (layout struct_kind t n names ls) there = refl
-  answers (layout list_kind t n names ls) there = refl
-  answers (layout (dict_kind all) t n names ls) there = refl
-  answers (layout (zoned_kind m specs) t n names ls) there = refl
-  answers (layout (unread_zoned_kind metadata) t n names ls) there = refl
-  answers (layout (stats_kind m stats) t n names ls) there = refl
-  answers (layout (foreign_kind id metadata) t n names ls) there = refl
-  answers (layout (refused_kind is_flat refusal) t n names ls) there = absurd there.0
+  own : (l : LayoutData ℕ) → TablesThere look l → answered l ≡ Ok l
+  own l there = answers (λ x. TablesThere look x) (λ is_flat refusal t n names ls h. h.0) l there
 
   -- a child is there, and so are its tables
   child_there : (ls : LayoutList ℕ) (i : ℕ) → AllThere look ls → i < length (lays_in ls) → HasChild (lays_in ls) i
   child_there no_layouts i there less = absurd (omega (arith, less))
-  child_there (child l ls) zero there less = (l, answers l there.0)
+  child_there (child l ls) zero there less = (l, own l there.0)
   child_there (child l ls) (suc i) there less = child_there ls i there.1 (omega (arith, less))
 
   pub has_child : (l : LayoutData ℕ) (i : ℕ) → TablesThere look l → i < length (children_of l) → HasChild (children_of l) i
@@ -87,7 +80,7 @@ module _ (look : ℕ → Option (List ℕ)) where
   at_child : (ls : LayoutList ℕ) (i : ℕ) (x : LayoutData ℕ) → AllThere look ls → child_in (lays_in ls) i ≡ Ok x → TablesThere look x × (tables_at (lays_in ls) i ≡ zone_tables x)
   at_child no_layouts i x there is = absurd (let f : Err _ ≡ Ok x = is in cc)
   at_child (child l ls) zero x there is =
-      let same : l ≡ x = (let e : Ok l ≡ Ok x = sym (answers l there.0) ∙ is in cc) in
+      let same : l ≡ x = (let e : Ok l ≡ Ok x = sym (own l there.0) ∙ is in cc) in
       (subst (λ y. TablesThere look y) same there.0, ap zone_tables same)
   at_child (child l ls) (suc i) x there is = at_child ls i x there.1 is
 
@@ -113,7 +106,7 @@ module _ (look : ℕ → Option (List ℕ)) where
   owns (layout (zoned_kind k specs) t m names (child a no_layouts)) n there is = absurd there.0
   owns (layout (zoned_kind k specs) t m names (child a (child z no_layouts))) n there is =
       let same : k ≡ n = (let e : Some k ≡ Some n = is in cc) in
-      record { zones = z; own = ap (λ j. table_of j z) same; second = answers z there.1.1.0; read = there.0 }
+      record { zones = z; own = ap (λ j. table_of j z) same; second = own z there.1.1.0; read = there.0 }
   owns (layout (zoned_kind k specs) t m names (child a (child z (child b ls)))) n there is = absurd there.0
   owns (layout (unread_zoned_kind metadata) t m names ls) n there is = absurd there.0
   owns (layout (stats_kind k stats) t m names ls) n there is = absurd there.0
@@ -216,11 +209,3 @@ rows_are_of look (t ∷ ts) (z ∷ zs) h = rw (h.0.rows_are, rows_are_of look ts
 pub report_shown : (look : ℕ → Option (List ℕ)) (l : LayoutData ℕ) (ts : List TableRows) (vs : List ValueData) (text : List ℕ) (shown : List (List ValueData) → List ValueData → List ℕ) → AreRead look ts (zone_tables l) → rows segment_codec look l ≡ Some vs
     → text ≡ shown (rows_of ts) vs → Some (Some text) ≡ option_map (λ tables. option_map (shown tables) (rows segment_codec look l)) (all_there (table_rows look (zone_tables l)))
 report_shown look l ts vs text shown read back is = rw (rows_are_of look ts (zone_tables l) read, back, is) refl
-
--- ---- a child that is there
-
--- a child that can be built is one of the children
-pub child_below : (ls : List (LayoutData ℕ)) (i : ℕ) → HasChild ls i → i < length ls
-child_below [] i h = absurd (let f : Err _ ≡ Ok h.0 = h.1 in cc)
-child_below (l ∷ ls) zero h = omega arith
-child_below (l ∷ ls) (suc i) h = omega (arith, child_below ls i h)

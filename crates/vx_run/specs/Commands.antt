@@ -1,5 +1,6 @@
 -- What the words ask for: a command that reads an input, or the generated table.
 use Rattle.std.specs.Prelude.{◌≡◌, ℕ, ◌≤◌, bytes_eq, if◌then◌else◌, List, [], ◌∷◌, codes, decimal, Option, Some, None}
+use Rattle.vx_generator_laws.specs.TableWrite.{most_rows}
 use Rattle.vx_job.specs.JobText.{job}
 use Rattle.vx_job.specs.TreeText.{tree_job}
 use Rattle.vx_run.specs.declared.command.Command.{Command}
@@ -17,9 +18,9 @@ command_of [] = None
 command_of (word ∷ []) = command_named word
 command_of (word ∷ other ∷ words) = None
 
--- the word is this number in decimal, from 1 to a million
+-- the word is this number in decimal, from 1 to the most rows that are written
 abbrev pub AreRows : List ℕ → ℕ → Type 0
-AreRows word n = (word ≡ decimal n) × (1 ≤ n) × (n ≤ 1000000)
+AreRows word n = (word ≡ decimal n) × (1 ≤ n) × (n ≤ most_rows)
 
 -- the words ask for the generated table of so many rows
 abbrev pub AsksRows : List (List ℕ) → ℕ → Type 0

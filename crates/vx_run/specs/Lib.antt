@@ -5,3 +5,4 @@ pub mod Answers
 pub mod TreeAnswers
 pub mod Commands
 pub mod Running
+pub mod Runs

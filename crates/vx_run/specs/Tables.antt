@@ -1,12 +1,11 @@
 -- The zone tables of what was written, and what is read of them.
-use Rattle.std.specs.Prelude.{◌≡◌, ℕ, zero, suc, List, [], ◌∷◌, ◌++◌, map, Option, Some, None, IsSome, Ok}
+use Rattle.std.specs.Prelude.{◌≡◌, ℕ, zero, suc, List, [], ◌∷◌, ◌++◌, map, Option, Some, None, IsSome}
 use Rattle.vx_model.specs.TyView.{ty}
 use Rattle.vx_model.specs.TreeView.{val}
 use Rattle.vx_model.specs.ValueData.{ValueData}
 use Rattle.vx_layout_spec.specs.LayoutTree.{Kind, flat_kind, chunked_kind, struct_kind, list_kind, dict_kind, zoned_kind, stats_kind, LayoutData, LayoutList, layout, no_layouts, child, layout_type}
 use Rattle.vx_layout_spec.specs.Rows.{rows}
 use Rattle.vx_segment_reader.specs.Codec.{segment_codec}
-use Rattle.vx_layout_tree.specs.Children.{child_in}
 use Rattle.vx_report.specs.declared.zone_text.TableRows.{TableRows}
 use Rattle.vx_report.specs.ZoneText.{ZoneTable, own_table, zone_tables}
 
@@ -56,10 +55,6 @@ abbrev pub tables_at : List (LayoutData ℕ) → ℕ → List ZoneTable
 tables_at [] i = []
 tables_at (l ∷ ls) zero = zone_tables l
 tables_at (l ∷ ls) (suc i) = tables_at ls i
-
--- the child at the place can be built
-abbrev pub HasChild : List (LayoutData ℕ) → ℕ → Type 0
-HasChild ls i = (x : LayoutData ℕ) × (child_in ls i ≡ Ok x)
 
 -- ---- tables that were read
 

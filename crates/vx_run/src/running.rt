@@ -1,20 +1,17 @@
 //! The program.
 
-ghost use Rattle.std.specs.Prelude.{◌≡◌, ℕ, ◌+◌, ◌<◌, ◌≤◌, ◌⊎◌, true, false, List, Some, None, Ok, map, is_some, string_bytes, IfOk, OnOk, OnErr};
+ghost use Rattle.std.specs.Prelude.{◌≡◌, ℕ, ◌+◌, ◌≤◌, true, false, List, Some, None, map, string_bytes, IfOk, OnOk, OnErr};
 ghost use Rattle.std.specs.Io.KnownBytes.{Appends, IsAtEnd};
-ghost use Rattle.vx_fault.specs.Counts.{Counts, IsCalm};
-ghost use Rattle.vx_job.specs.JobText.{JobData, job, limit};
-ghost use Rattle.vx_job.specs.TreeText.{tree_job};
-ghost use Rattle.vx_run.specs.declared.status.Status.{Status};
-ghost use Rattle.vx_run.specs.declared.status.Status.TheVariants as statuses;
-ghost use Rattle.vx_run.specs.declared.command.Command.{Command};
-ghost use Rattle.vx_run.specs.declared.command.Command.TheVariants as commands;
-ghost use Rattle.vx_run.specs.Answers.{IsText, SetsNoFaults, IsValid};
+ghost use Rattle.vx_fault.specs.Counts.{Counts};
+ghost use Rattle.vx_generator_laws.specs.TableWrite.{most_rows};
 ghost use Rattle.vx_summary.specs.Summary.{summary};
+ghost use Rattle.vx_job.specs.JobText.{limit};
+ghost use Rattle.vx_run.specs.declared.status.Status.TheVariants as statuses;
+ghost use Rattle.vx_run.specs.Answers.{IsText};
 ghost use Rattle.vx_run.specs.Commands.{command_of, AsksRows, Answers};
 ghost use Rattle.vx_run.specs.Failures.{input_failed, output_failed};
-ghost use Rattle.vx_run.specs.TreeAnswers.{tree_status};
 ghost use Rattle.vx_run.specs.Running.{usage, is_input_fault, is_output_fault, is_usage, Ends, MayFail, Took, HasRead, has_read, Finishes, AppendsFront};
+ghost use Rattle.vx_run.specs.Runs.{pipe_at, Runs};
 
 use crate::command::{Command, answer_by, command_of, rows_asked};
 use crate::input::{Input, InputFailure};
@@ -35,34 +32,10 @@ pub fn run<I: Input, O: Output>(
     input: &mut I,
     output: &mut O,
 ) -> Status
-    ensures input_count { Counts (I.faults input.old) (I.faults input.new) (is_input_fault result) }
-    ensures output_count { Counts (O.faults output.old) (O.faults output.new) (is_output_fault result) }
-    ensures may_input { is_input_fault result ≡ true → MayFail (I.may_fail input.old) }
-    ensures may_output { is_output_fault result ≡ true → MayFail (O.may_fail output.old) }
-    ensures ended { is_some (command_of (map string_bytes words.now)) ≡ true → has_read result ≡ true → IsAtEnd (I.to_come input.new) }
-    ensures judged { is_some (command_of (map string_bytes words.now)) ≡ true → result ≡ statuses.BadJob
-        → (bytes : List ℕ) × HasRead (I.to_come input.old) (I.to_come input.new) bytes }
-    ensures took { Took (limit + 1) (I.to_come input.old) (I.to_come input.new) }
-    ensures early { is_input_fault result ≡ true → Took limit (I.to_come input.old) (I.to_come input.new) }
-    ensures known { is_some (command_of (map string_bytes words.now)) ≡ true → is_usage result ≡ false }
-    ensures ran { (command : Command) (bytes : List ℕ) → command_of (map string_bytes words.now) ≡ Some command → I.to_come input.old ≡ Some bytes
-        → Ends (Answers command bytes) (O.written output.old) (O.written output.new) result }
-    ensures used { command_of (map string_bytes words.now) ≡ None → ((n : ℕ) → ¬ AsksRows (map string_bytes words.now) n)
-        → Ends (IsText statuses.Usage usage) (O.written output.old) (O.written output.new) result }
-    ensures summed { (n : ℕ) → AsksRows (map string_bytes words.now) n
-        → Ends (IsText statuses.Done (summary n)) (O.written output.old) (O.written output.new) result }
-    ensures sums { (n : ℕ) → AsksRows (map string_bytes words.now) n → IsCalm (O.faults output.old) (O.faults output.new)
-        → (result ≡ statuses.Done) ⊎ (result ≡ statuses.OutOfMemory) }
-    ensures unread { command_of (map string_bytes words.now) ≡ None → is_input_fault result ≡ false }
-    ensures untaken { command_of (map string_bytes words.now) ≡ None → I.to_come input.new ≡ I.to_come input.old }
+    ensures runs { Runs (map string_bytes words.now)
+        (pipe_at I.faults I.may_fail I.to_come input.old) (pipe_at I.faults I.may_fail I.to_come input.new)
+        (pipe_at O.faults O.may_fail O.written output.old) (pipe_at O.faults O.may_fail O.written output.new) result }
     ensures untouched { command_of (map string_bytes words.now) ≡ None → input.new ≡ input.old }
-    ensures complete { (bytes : List ℕ) (j : JobData) → command_of (map string_bytes words.now) ≡ Some commands.Write
-        → I.to_come input.old ≡ Some bytes → job bytes ≡ Ok j → SetsNoFaults j → IsValid j
-        → IsCalm (I.faults input.old) (I.faults input.new) → IsCalm (O.faults output.old) (O.faults output.new)
-        → (result ≡ statuses.Done) ⊎ (result ≡ statuses.OutOfMemory) }
-    ensures told { (bytes : List ℕ) → command_of (map string_bytes words.now) ≡ Some commands.Tree → I.to_come input.old ≡ Some bytes
-        → IsCalm (I.faults input.old) (I.faults input.new) → IsCalm (O.faults output.old) (O.faults output.new)
-        → (result ≡ tree_status (tree_job bytes)) ⊎ (result ≡ statuses.OutOfMemory) }
 {
     run_told(alloc, words, input, output, Nobody)
 }
@@ -77,34 +50,10 @@ pub fn run_told<I: Input, O: Output, P: Progress + Drop>(
     output: &mut O,
     progress: P,
 ) -> Status
-    ensures input_count { Counts (I.faults input.old) (I.faults input.new) (is_input_fault result) }
-    ensures output_count { Counts (O.faults output.old) (O.faults output.new) (is_output_fault result) }
-    ensures may_input { is_input_fault result ≡ true → MayFail (I.may_fail input.old) }
-    ensures may_output { is_output_fault result ≡ true → MayFail (O.may_fail output.old) }
-    ensures ended { is_some (command_of (map string_bytes words.now)) ≡ true → has_read result ≡ true → IsAtEnd (I.to_come input.new) }
-    ensures judged { is_some (command_of (map string_bytes words.now)) ≡ true → result ≡ statuses.BadJob
-        → (bytes : List ℕ) × HasRead (I.to_come input.old) (I.to_come input.new) bytes }
-    ensures took { Took (limit + 1) (I.to_come input.old) (I.to_come input.new) }
-    ensures early { is_input_fault result ≡ true → Took limit (I.to_come input.old) (I.to_come input.new) }
-    ensures known { is_some (command_of (map string_bytes words.now)) ≡ true → is_usage result ≡ false }
-    ensures ran { (command : Command) (bytes : List ℕ) → command_of (map string_bytes words.now) ≡ Some command → I.to_come input.old ≡ Some bytes
-        → Ends (Answers command bytes) (O.written output.old) (O.written output.new) result }
-    ensures used { command_of (map string_bytes words.now) ≡ None → ((n : ℕ) → ¬ AsksRows (map string_bytes words.now) n)
-        → Ends (IsText statuses.Usage usage) (O.written output.old) (O.written output.new) result }
-    ensures summed { (n : ℕ) → AsksRows (map string_bytes words.now) n
-        → Ends (IsText statuses.Done (summary n)) (O.written output.old) (O.written output.new) result }
-    ensures sums { (n : ℕ) → AsksRows (map string_bytes words.now) n → IsCalm (O.faults output.old) (O.faults output.new)
-        → (result ≡ statuses.Done) ⊎ (result ≡ statuses.OutOfMemory) }
-    ensures unread { command_of (map string_bytes words.now) ≡ None → is_input_fault result ≡ false }
-    ensures untaken { command_of (map string_bytes words.now) ≡ None → I.to_come input.new ≡ I.to_come input.old }
+    ensures runs { Runs (map string_bytes words.now)
+        (pipe_at I.faults I.may_fail I.to_come input.old) (pipe_at I.faults I.may_fail I.to_come input.new)
+        (pipe_at O.faults O.may_fail O.written output.old) (pipe_at O.faults O.may_fail O.written output.new) result }
     ensures untouched { command_of (map string_bytes words.now) ≡ None → input.new ≡ input.old }
-    ensures complete { (bytes : List ℕ) (j : JobData) → command_of (map string_bytes words.now) ≡ Some commands.Write
-        → I.to_come input.old ≡ Some bytes → job bytes ≡ Ok j → SetsNoFaults j → IsValid j
-        → IsCalm (I.faults input.old) (I.faults input.new) → IsCalm (O.faults output.old) (O.faults output.new)
-        → (result ≡ statuses.Done) ⊎ (result ≡ statuses.OutOfMemory) }
-    ensures told { (bytes : List ℕ) → command_of (map string_bytes words.now) ≡ Some commands.Tree → I.to_come input.old ≡ Some bytes
-        → IsCalm (I.faults input.old) (I.faults input.new) → IsCalm (O.faults output.old) (O.faults output.new)
-        → (result ≡ tree_status (tree_job bytes)) ⊎ (result ≡ statuses.OutOfMemory) }
 {
     match command_of(words) {
         Some(command) => run_command(alloc, command, input, output, progress),
@@ -146,7 +95,7 @@ fn sum_up<O: Output, P: Progress + Drop>(
     output: &mut O,
     progress: P,
 ) -> Status
-    requires { rows ≤ 1000000 }
+    requires { rows ≤ most_rows }
     ensures count { Counts (O.faults output.old) (O.faults output.new) (is_output_fault result) }
     ensures may { is_output_fault result ≡ true → MayFail (O.may_fail output.old) }
     ensures unread { is_input_fault result ≡ false }

@@ -1,22 +1,20 @@
 //! The zone tables of what was written, read from its segments.
 
-ghost use Rattle.std.specs.Prelude.{◌≡◌, ◌<◌, ◌∷◌, [], length, Some, Ok, IsSome, IfOk, OnOk};
+ghost use Rattle.std.specs.Prelude.{◌≡◌, ◌<◌, ◌∷◌, [], length, Some, IsSome, IfOk, OnOk};
 ghost use Rattle.vx_layout_spec.specs.LayoutTree.{children_of, layout_kind};
 ghost use Rattle.vx_layout_spec.specs.Rows.{rows};
 ghost use Rattle.vx_segment_reader.specs.Codec.{segment_codec};
-ghost use Rattle.vx_layout_tree.specs.Children.{child_in};
 ghost use Rattle.vx_layout_tree.specs.LayoutView.{layout_data};
-ghost use Rattle.vx_layout_build.specs.ChildView.{child_lay};
 ghost use Rattle.vx_segment_map.specs.SegmentView.{segment_in};
 ghost use Rattle.vx_report.specs.ZoneText.{zone_tables};
-ghost use Rattle.vx_run.specs.Tables.{TablesThere, zone_length, own_tables, tables_at, HasChild, IsRead, AreRead, ReadsOn};
+ghost use Rattle.vx_run.specs.Tables.{TablesThere, zone_length, own_tables, tables_at, IsRead, AreRead, ReadsOn};
 
 use crate::answer::read_back;
 use std::alloc::{AllocError, Global};
-use vx_layout_build::{LayoutChild, LayoutWalk};
-use vx_layout_tree::{KindRef, Layout, LayoutError};
+use vx_layout_tree::{KindRef, Layout};
 use vx_read::SegmentMap;
 use vx_report::TableRows;
+use vx_row_count::child_there;
 
 /// The tables of the layout, a node's own before those below it.
 ///
@@ -64,7 +62,7 @@ fn push_child(
     requires place { i < length (children_of (layout_data layout.now)) }
     ensures { OnOk result (ReadsOn (segment_in segments.now) tables.old.items tables.new.items (tables_at (children_of (layout_data layout.now)) i)) }
 {
-    let child = child_of(layout, i)?;
+    let child = child_there(layout, i)?;
     let pushed = push_tables(alloc, child.layout(), segments, tables);
     drop(child);
     pushed
@@ -112,7 +110,7 @@ fn read_table(
     requires zoned { zone_length (layout_kind (layout_data layout.now)) ≡ Some zone_len }
     ensures { IfOk result (λ t. AreRead (segment_in segments.now) (t ∷ []) (own_tables (layout_data layout.now))) }
 {
-    let zones = child_of(layout, 1)?;
+    let zones = child_there(layout, 1)?;
     let table = table_of(alloc, zones.layout(), segments, zone_len);
     drop(zones);
     table
@@ -139,17 +137,5 @@ fn table_of(
             drop(dtype);
             Err(error)
         }
-    }
-}
-
-/// The child at the place.
-fn child_of(layout: &Layout, i: u64) -> Result<LayoutChild<'_>, AllocError>
-    requires { HasChild (children_of (layout_data layout.now)) i }
-    ensures { IfOk result (λ c. child_in (children_of (layout_data layout.now)) i ≡ Ok (child_lay c)) }
-{
-    match layout.child(i) {
-        Ok(child) => Ok(child),
-        Err(LayoutError::OutOfMemory) => Err(AllocError),
-        Err(_) => unreachable!(),
     }
 }

@@ -1,2 +1,3 @@
+pub mod MemoryWrites
 mod WriteSteps
 mod SummarySteps

@@ -1,5 +1,5 @@
 -- What is summed up, a segment and a column at a time.
-use Rattle.std.proofs.Common.{◌≡◌, ℕ, zero, suc, ◌+◌, ◌-◌, ◌*◌, ◌<◌, ◌≤◌, Option, List, [], ◌∷◌, ◌++◌, length, drop, get_or, Ok, refl, sym, ap, ◌∙◌, arith, append_assoc}
+use Rattle.std.proofs.Common.{◌≡◌, ℕ, zero, suc, ◌+◌, ◌-◌, ◌*◌, ◌<◌, ◌≤◌, Option, List, [], ◌∷◌, ◌++◌, length, drop, get_or, refl, sym, ap, ◌∙◌, arith, append_assoc}
 use Rattle.std.proofs.lemmas.List.{append-nil, drop_more, length-append, length-map}
 use Rattle.std.specs.Prelude.{codes, decimal, min, Some, IsSome}
 use Rattle.vx_model.specs.Ty.{Ty}
@@ -8,12 +8,14 @@ use Rattle.vx_model.specs.ValueData.{value}
 use Rattle.vx_layout_spec.specs.LayoutTree.{flat_kind, chunked_kind, struct_kind, list_kind, dict_kind, zoned_kind, unread_zoned_kind, stats_kind, foreign_kind, refused_kind, LayoutData, layout, children_of, layout_kind, row_count}
 use Rattle.vx_layout_spec.specs.Rows.{rows}
 use Rattle.vx_segment_reader.specs.Codec.{segment_codec}
-use Rattle.vx_layout_tree.specs.Children.{answered, kind_name}
+use Rattle.vx_layout_tree.specs.Children.{kind_name}
+use Rattle.vx_layout_tree.proofs.Answered.{made_is}
 use Rattle.vx_layout_tree.specs.declared.kind.LayoutKind.{LayoutKind}
 use Rattle.vx_layout_tree.specs.declared.kind.LayoutKind.TheVariants as kinds
 use Rattle.vx_plan.specs.Number.{segment_at}
 use Rattle.vx_plan.specs.SourcePlan.{source_values}
 use Rattle.vx_generator.specs.Generated.{table_type, rows_from, batch_count, batches_from, table_batches}
+use Rattle.vx_generator_laws.proofs.TableColumns.{rows_length}
 use Rattle.vx_row_count.proofs.CountSteps.{counts, has_child, columns}
 use Rattle.vx_summary.specs.Summary.{table_layout, table_segments, summary_of, summary, bytes_in, columns_of, zones_by, zone_counts, ColumnsThere, IsZoneCount}
 
@@ -25,18 +27,6 @@ drop_bytes bs i lt = rw (drop_more bs i [] lt) refl
 pub ruleset byte_rules = (drop_bytes)
 
 -- ---- columns
-
-answered_is : (x l : LayoutData ℕ) → answered x ≡ Ok l → x ≡ l
-answered_is (layout (flat_kind encodings tree) t n names ls) l e = let f : Ok (layout (flat_kind encodings tree) t n names ls) ≡ Ok l = e in cc f
-answered_is (layout chunked_kind t n names ls) l e = let f : Ok (layout chunked_kind t n names ls) ≡ Ok l = e in cc f
-answered_is (layout struct_kind t n names ls) l e = let f : Ok (layout struct_kind t n names ls) ≡ Ok l = e in cc f
-answered_is (layout list_kind t n names ls) l e = let f : Ok (layout list_kind t n names ls) ≡ Ok l = e in cc f
-answered_is (layout (dict_kind all) t n names ls) l e = let f : Ok (layout (dict_kind all) t n names ls) ≡ Ok l = e in cc f
-answered_is (layout (zoned_kind m specs) t n names ls) l e = let f : Ok (layout (zoned_kind m specs) t n names ls) ≡ Ok l = e in cc f
-answered_is (layout (unread_zoned_kind metadata) t n names ls) l e = let f : Ok (layout (unread_zoned_kind metadata) t n names ls) ≡ Ok l = e in cc f
-answered_is (layout (stats_kind m stats) t n names ls) l e = let f : Ok (layout (stats_kind m stats) t n names ls) ≡ Ok l = e in cc f
-answered_is (layout (foreign_kind id metadata) t n names ls) l e = let f : Ok (layout (foreign_kind id metadata) t n names ls) ≡ Ok l = e in cc f
-answered_is (layout (refused_kind is_flat refusal) t n names ls) l e = cc e
 
 -- a layout with columns is a struct
 record IsStruct (l : LayoutData ℕ) : Type 0 where
@@ -85,7 +75,7 @@ pub ruleset table_rules = (no_table)
 -- the columns from one on: its zones, and those behind
 pub drop_zones : (ls : List (LayoutData ℕ)) (i n : ℕ) → IsZoneCount ls i n → zone_counts (drop i ls) ≡ codes " " ++ (decimal n ++ zone_counts (drop (i + 1) ls))
 drop_zones [] i n h = absurd (cc h.1)
-drop_zones (l ∷ ls) zero n h = rw (answered_is l h.0 h.1, h.2) refl
+drop_zones (l ∷ ls) zero n h = rw ((made_is l h.0 h.1).0, h.2) refl
 drop_zones (l ∷ ls) (suc i) n h = let e : suc i + 1 ≡ suc (i + 1) = omega arith in rw e (drop_zones ls i n h)
 
 -- a column more
@@ -98,10 +88,6 @@ next_zones out new whole ls i n h is so_far =
 pub ruleset text_rules = (append_assoc, append-nil)
 
 -- ---- rows
-
-rows_length : (i n : ℕ) → length (rows_from i n) ≡ n
-rows_length i zero = refl
-rows_length i (suc n) = ap suc (rows_length (i + 1) n)
 
 batch_rows : (t : Ty) (i n : ℕ) → length (row_values (plain_piece t (rows_from i n))) ≡ n
 batch_rows t i n = length-map (rows_from i n) value ∙ rows_length i n

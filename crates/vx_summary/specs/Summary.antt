@@ -1,11 +1,15 @@
 -- The summary of the generated table once it is written and read back.
-use Rattle.std.specs.Prelude.{◌≡◌, ℕ, ◌+◌, ◌<◌, List, [], ◌∷◌, ◌++◌, length, codes, decimal, Ok}
+use Rattle.std.specs.Prelude.{◌≡◌, ℕ, ◌+◌, ◌<◌, List, [], ◌∷◌, ◌++◌, length, codes, decimal, Some, Ok}
 use Rattle.vx_layout_spec.specs.LayoutTree.{struct_kind, LayoutData, layout, lays_in, children_of, layout_kind}
+use Rattle.vx_layout_spec.specs.Rows.{rows}
+use Rattle.vx_segment_reader.specs.Codec.{segment_codec}
 use Rattle.vx_layout_tree.specs.Children.{kind_name, rows_at, child_in}
 use Rattle.vx_layout_tree.specs.declared.kind.LayoutKind.{LayoutKind}
 use Rattle.vx_layout_tree.specs.declared.kind.LayoutKind.TheVariants as kinds
 use Rattle.vx_row_count.specs.Counting.{HasChild}
-use Rattle.vx_plan.specs.Number.{segments, numbered}
+use Rattle.vx_plan.specs.Number.{segments, numbered, segment_at}
+use Rattle.vx_plan.specs.SourcePlan.{source_values}
+use Rattle.vx_generator.specs.Generated.{table_batches}
 use Rattle.vx_generator_laws.specs.TableWrite.{table_plan}
 
 -- ---- what is written: the plan of the table's batches, its segments numbered from 0
@@ -15,6 +19,12 @@ table_layout n = numbered (table_plan n) 0
 
 abbrev pub table_segments : ℕ → List (List ℕ)
 table_segments n = segments (table_plan n)
+
+-- this layout and these segments were written, and give the table's rows
+pub record IsWritten (n : ℕ) (l : LayoutData ℕ) (stored : List (List ℕ)) : Type 0 where
+  pub layout : l ≡ table_layout n
+  pub segments : stored ≡ table_segments n
+  pub read : rows segment_codec (segment_at 0 stored) l ≡ Some (source_values (table_batches n))
 
 -- ---- what is told of it
 

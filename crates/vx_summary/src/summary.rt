@@ -7,6 +7,7 @@ ghost use Rattle.vx_segment_reader.specs.Codec.{segment_codec};
 ghost use Rattle.vx_segment_map.specs.SegmentView.{segment_in};
 ghost use Rattle.vx_layout_tree.specs.LayoutView.{layout_data};
 ghost use Rattle.vx_row_count.specs.Counting.{HasChild};
+ghost use Rattle.vx_generator_laws.specs.TableWrite.{most_rows};
 ghost use Rattle.vx_summary.specs.Summary.{columns_of, zone_count, zone_counts, ColumnsThere, IsZoneCount, summary_of, summary};
 
 use crate::bytes::total_bytes;
@@ -27,7 +28,7 @@ pub fn table_summary<P: Progress + Drop>(
     rows: u32,
     progress: P,
 ) -> Result<String, AllocError>
-    requires { rows ≤ 1000000 }
+    requires { rows ≤ most_rows }
     ensures { IfOk result (λ text. string_bytes text ≡ summary rows) }
 {
     let (layout, list) = write_table(alloc, rows, progress)?;

@@ -1,22 +1,18 @@
 //! The write of the generated table.
 
-ghost use Rattle.std.specs.Prelude.{◌≡◌, ◌≤◌, Some, IfOk};
-ghost use Rattle.vx_layout_spec.specs.Rows.{rows};
-ghost use Rattle.vx_segment_reader.specs.Codec.{segment_codec};
+ghost use Rattle.std.specs.Prelude.{◌≡◌, ◌≤◌, IfOk};
 ghost use Rattle.vx_strategy.specs.StrategyView.{strategy_data};
 ghost use Rattle.vx_layout_tree.specs.LayoutView.{layout_data};
-ghost use Rattle.vx_plan.specs.Number.{segment_at};
-ghost use Rattle.vx_plan.specs.SourcePlan.{source_values};
-ghost use Rattle.vx_generator.specs.Generated.{table_batches};
 ghost use Rattle.vx_generator.specs.TableStrategy.{table_strategy};
-ghost use Rattle.vx_generator_laws.specs.TableWrite.{all_encodings};
-ghost use Rattle.vx_summary.specs.Summary.{table_layout, table_segments};
+ghost use Rattle.vx_generator_laws.specs.TableWrite.{most_rows};
+ghost use Rattle.vx_summary.specs.Summary.{IsWritten};
 
 use std::alloc::{AllocError, Global};
 use std::cell::Cell;
+use vx_encodings::all_encodings;
 use vx_generator::{GeneratedSource, table_strategy};
 use vx_layout_tree::Layout;
-use vx_model::{ArrayContext, Blob, EncodingId};
+use vx_model::Blob;
 use vx_progress::{CountedSink, Progress, ToldSource};
 use vx_sink::{LayoutWriterContext, MemorySink};
 use vx_strategy::Strategy;
@@ -30,10 +26,8 @@ pub(crate) fn write_table<P: Progress + Drop>(
     count: u32,
     progress: P,
 ) -> Result<(Layout, Vec<Blob>), AllocError>
-    requires { count ≤ 1000000 }
-    ensures layout { IfOk result (λ w. layout_data w.0 ≡ table_layout count) }
-    ensures segments { IfOk result (λ w. w.1.items ≡ table_segments count) }
-    ensures rows { IfOk result (λ w. rows segment_codec (segment_at 0 w.1.items) (layout_data w.0) ≡ Some (source_values (table_batches count))) }
+    requires { count ≤ most_rows }
+    ensures { IfOk result (λ w. IsWritten count (layout_data w.0) w.1.items) }
 {
     let strategy = table_strategy(alloc)?;
     let appended = Cell::new(0);
@@ -50,11 +44,9 @@ fn write_by<P: Progress + Drop>(
     progress: P,
     appended: &Cell<u64>,
 ) -> Result<(Layout, Vec<Blob>), AllocError>
-    requires few { count ≤ 1000000 }
+    requires few { count ≤ most_rows }
     requires strategy { strategy_data strategy.now ≡ table_strategy }
-    ensures layout { IfOk result (λ w. layout_data w.0 ≡ table_layout count) }
-    ensures segments { IfOk result (λ w. w.1.items ≡ table_segments count) }
-    ensures rows { IfOk result (λ w. rows segment_codec (segment_at 0 w.1.items) (layout_data w.0) ≡ Some (source_values (table_batches count))) }
+    ensures { IfOk result (λ w. IsWritten count (layout_data w.0) w.1.items) }
 {
     vx_generator_laws::table_is_valid();
     let mut ctx = LayoutWriterContext::new(all_encodings(alloc)?);
@@ -77,15 +69,5 @@ fn write_by<P: Progress + Drop>(
             WriteError::OutOfMemory => Err(AllocError),
             _ => unreachable!(),
         },
-    }
-}
-
-/// All encodings, in their default order.
-fn all_encodings(alloc: Global) -> Result<ArrayContext, AllocError>
-    ensures { IfOk result (λ c. c ≡ all_encodings) }
-{
-    match ArrayContext::try_new(Vec::from_slice(alloc, &EncodingId::ALL)?) {
-        Ok(context) => Ok(context),
-        Err(_) => Err(AllocError),
     }
 }

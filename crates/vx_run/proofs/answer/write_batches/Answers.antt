@@ -1,19 +1,12 @@
-use Rattle.std.proofs.Common.{◌≡◌, ℕ, List, Option, false, Some, sym, ap, ap₂, ◌∙◌}
-use Rattle.vx_model.specs.declared.encoding.EncodingId.{EncodingId}
+use Rattle.std.proofs.Common.{false, Some, sym, ap, ◌∙◌}
 use Rattle.vx_sink.specs.ContextView.{is_marked}
-use Rattle.vx_setting.specs.Setting.{real}
 use Rattle.vx_compressor_spec.specs.TableImage.{table_image}
-use Rattle.vx_machine_state.specs.Images.{images_of}
 use Rattle.vx_write.specs.Context.{setting_of}
 use Rattle.vx_job.specs.JobText.{JobData}
 use Rattle.vx_job.specs.JobView.{job_view}
+use Rattle.vx_summary.proofs.MemoryWrites.{same_setting}
 use Rattle.vx_run.proofs.JobSteps.{same_pieces, job_written, written_tables, written_fits, job_refused, refused_fits}
 use Rattle.vx_run.proofs.answer.write_batches.Goals as goal
-
--- the setting is the job's
-same_setting : (ids ids_now : List EncodingId) (allowed allowed_now : Option (List (List ℕ))) → ids ≡ ids_now → allowed ≡ allowed_now
-    → real ids allowed (images_of table_image) ≡ real ids_now allowed_now (images_of table_image)
-same_setting ids ids_now allowed allowed_now e f = ap₂ (λ (xs : List EncodingId) (ys : Option (List (List ℕ))). real xs ys (images_of table_image)) e f
 
 pub returns-in-Ok-clause-ok : goal.returns-in-Ok-clause-ok
 returns-in-Ok-clause-ok g c =

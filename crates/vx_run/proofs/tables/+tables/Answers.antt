@@ -24,8 +24,8 @@ push_tables-returns t c =
     let all : length (children_of l) ≤ c.loop-i.i = omega arith in
     all_read (segment_in c.args.segments.now) l c.loop-i.i c.args.tables.now.items c.loop-i.tables.items all c.loop-i.invariant
 
-pub push_child-child_of-requires : goal.push_child-child_of-requires
-push_child-child_of-requires t c = has_child (segment_in c.args.segments.now) (layout_data c.args.layout.now) c.args.i c.requires.there c.requires.place
+pub push_child-child_there-requires : goal.push_child-child_there-requires
+push_child-child_there-requires t c = has_child (segment_in c.args.segments.now) (layout_data c.args.layout.now) c.args.i c.requires.there c.requires.place
 
 pub push_child-push_tables-pushed-requires : goal.push_child-push_tables-pushed-requires
 push_child-push_tables-pushed-requires t c =

@@ -4,8 +4,8 @@ use Rattle.vx_segment_map.specs.SegmentView.{segment_in}
 use Rattle.vx_run.proofs.TableSteps.{owns, own_is, table_read}
 use Rattle.vx_run.proofs.tables.read_table.Goals as goal
 
-pub child_of-requires : goal.child_of-requires
-child_of-requires c = let o = owns (segment_in c.args.segments.now) (layout_data c.args.layout.now) c.args.zone_len c.requires.there c.requires.zoned in (o.zones, o.second)
+pub child_there-requires : goal.child_there-requires
+child_there-requires c = let o = owns (segment_in c.args.segments.now) (layout_data c.args.layout.now) c.args.zone_len c.requires.there c.requires.zoned in (o.zones, o.second)
 
 pub table_of-table-requires : goal.table_of-table-requires
 table_of-table-requires c = rw c.layout.ensures (own_is (segment_in c.args.segments.now) (layout_data c.args.layout.now) c.args.zone_len _ c.requires.there c.requires.zoned c.in_ok-zones.ensures).0

@@ -12,5 +12,5 @@ returns g c =
     IfOk-weaker c.sum_up-text.result
     (λ text. string_bytes text ≡ summary_of (row_count (layout_data c.in_ok-layout.layout)) (layout_data c.in_ok-layout.layout) c.in_ok-layout.list.items)
     (λ text. string_bytes text ≡ summary c.args.rows)
-    (λ text h. summary_is c.args.rows (layout_data c.in_ok-layout.layout) c.in_ok-layout.list.items {text = string_bytes text} c.in_ok-layout.ensures.layout c.in_ok-layout.ensures.segments c.in_ok-layout.ensures.rows h)
+    (λ text h. summary_is c.args.rows (layout_data c.in_ok-layout.layout) c.in_ok-layout.list.items {text = string_bytes text} c.in_ok-layout.ensures.layout c.in_ok-layout.ensures.segments c.in_ok-layout.ensures.read h)
     c.sum_up-text.ensures

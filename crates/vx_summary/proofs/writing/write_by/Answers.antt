@@ -3,13 +3,14 @@ use Rattle.vx_sink.specs.ContextView.{is_marked}
 use Rattle.vx_compressor_spec.specs.TableImage.{table_image}
 use Rattle.vx_write.specs.Context.{setting_of}
 use Rattle.vx_generator.specs.Generated.{table_batches}
-use Rattle.vx_summary.proofs.WriteSteps.{same_setting, table_written, is_calm, never_listed, valid_start}
+use Rattle.vx_summary.proofs.MemoryWrites.{same_setting, is_calm, never_listed}
+use Rattle.vx_summary.proofs.WriteSteps.{table_written, valid_start}
 use Rattle.vx_summary.proofs.writing.write_by.Goals as goal
 
-pub returns-in-Ok-clause-layout : goal.returns-in-Ok-clause-layout
-returns-in-Ok-clause-layout g c =
-    (table_written c.args.count (setting_of c.new-ctx.result table_image) (is_marked c.new-ctx.result) (record {
-      setting = same_setting c.new-ctx.result (c.new-ctx.ensures.listed ∙ c.in_ok-all_encodings.ensures) c.new-ctx.ensures.allowed;
+pub returns-in-Ok : goal.returns-in-Ok
+returns-in-Ok g c =
+    table_written c.args.count (setting_of c.new-ctx.result table_image) (is_marked c.new-ctx.result) (record {
+      setting = same_setting _ _ _ _ (c.new-ctx.ensures.listed ∙ c.in_ok-all_encodings.ensures) c.new-ctx.ensures.allowed;
       way = c.requires.strategy;
       schema = c.new-source.ensures.kind ∙ c.in_ok-table.ensures.kind;
       marked = c.new-ctx.ensures.marked;
@@ -18,26 +19,12 @@ returns-in-Ok-clause-layout g c =
       batches = c.new-source.ensures.to_come ∙ c.in_ok-table.ensures.batches;
       none = c.new-sink.ensures.segments ∙ c.new-segments.ensures.segments;
     })
-    (sym c.into_inner.ensures.segments ∙ c.into_segments.ensures) c.in-Ok.ensures.wrote).layout
-
-pub returns-in-Ok-clause-segments : goal.returns-in-Ok-clause-segments
-returns-in-Ok-clause-segments g c =
-    (table_written c.args.count (setting_of c.new-ctx.result table_image) (is_marked c.new-ctx.result) (record {
-      setting = same_setting c.new-ctx.result (c.new-ctx.ensures.listed ∙ c.in_ok-all_encodings.ensures) c.new-ctx.ensures.allowed;
-      way = c.requires.strategy;
-      schema = c.new-source.ensures.kind ∙ c.in_ok-table.ensures.kind;
-      marked = c.new-ctx.ensures.marked;
-      numbers = c.new-sink.ensures.next ∙ c.new-segments.ensures.next;
-      counted = c.new-ctx.ensures.counted;
-      batches = c.new-source.ensures.to_come ∙ c.in_ok-table.ensures.batches;
-      none = c.new-sink.ensures.segments ∙ c.new-segments.ensures.segments;
-    })
-    (sym c.into_inner.ensures.segments ∙ c.into_segments.ensures) c.in-Ok.ensures.wrote).segments
+    (sym c.into_inner.ensures.segments ∙ c.into_segments.ensures) c.in-Ok.ensures.wrote
 
 pub unreachable-requires : goal.unreachable-requires
 unreachable-requires g c =
     let valid = valid_start c.args.count (setting_of c.new-ctx.result table_image) (is_marked c.new-ctx.result) (record {
-      setting = same_setting c.new-ctx.result (c.new-ctx.ensures.listed ∙ c.in_ok-all_encodings.ensures) c.new-ctx.ensures.allowed;
+      setting = same_setting _ _ _ _ (c.new-ctx.ensures.listed ∙ c.in_ok-all_encodings.ensures) c.new-ctx.ensures.allowed;
       way = c.requires.strategy;
       schema = c.new-source.ensures.kind ∙ c.in_ok-table.ensures.kind;
       marked = c.new-ctx.ensures.marked;

@@ -1,7 +1,0 @@
-use Rattle.vx_layout_spec.specs.LayoutTree.{children_of}
-use Rattle.vx_layout_tree.specs.LayoutView.{layout_data}
-use Rattle.vx_run.proofs.TableSteps.{child_below}
-use Rattle.vx_run.proofs.tables.child_of.Goals as goal
-
-pub child-requires : goal.child-requires
-child-requires c = child_below (children_of (layout_data c.args.layout.now)) c.args.i c.requires
