@@ -1,6 +1,5 @@
 pub mod Imaging
 mod OwnJoins
-mod Bounded
 mod Joined
 mod Refusing
 mod Leading

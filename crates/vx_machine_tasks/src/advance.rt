@@ -28,7 +28,9 @@ use vx_machine_acts::{
 };
 use vx_machine_ids::give_up_pointer;
 use vx_machine_node::{Due, Item, Local, give_up_item};
-use vx_machine_nodes::{press, take_as_is, take_columns, take_flat, take_lists, take_pressing, take_zoned};
+use vx_machine_nodes::{
+    press, take_as_is, take_columns, take_flat, take_lists, take_pressing, take_zoned,
+};
 use vx_machine_task::{Head, Task};
 use vx_order::Order;
 use vx_path::owned::Path;

@@ -91,7 +91,7 @@ module _ (look : ℕ → Option (List ℕ)) where
   -- ---- children
 
   built : (x : LayoutData ℕ) → IsSome (rows segment_codec look x) → answered x ≡ Ok x
-  built x there = answers (λ l. IsSome (rows segment_codec look l)) (λ is_flat refusal t n names ls h. absurd (let f : false ≡ true = h in cc)) x there
+  built x there = answers (λ l. IsSome (rows segment_codec look l)) (λ is_flat refusal t n names ls h. (let f : false ≡ true = h in cc)) x there
 
   -- a child whose rows are there is there, with these rows, as many as it counts
   pub record Child (ls : List (LayoutData ℕ)) (i : ℕ) : Type 0 where

@@ -1,5 +1,5 @@
 -- What a run promises, by what its words ask for.
-use Rattle.std.proofs.Common.{◌≡◌, ℕ, ◌+◌, true, false, List, [], ◌∷◌, Option, Some, None, refl, subst, ◌∙◌}
+use Rattle.std.proofs.Common.{◌≡◌, ℕ, ◌+◌, true, false, List, [], ◌∷◌, Option, Some, None, refl, sym, subst, ◌∙◌}
 use Rattle.std.specs.Io.KnownBytes.{IsAtEnd}
 use Rattle.vx_summary.specs.Summary.{summary}
 use Rattle.vx_job.specs.JobText.{limit}
@@ -71,7 +71,7 @@ pub other_runs : (words : List (List ℕ)) (input output output_then : Pipe) (st
     → (((n : ℕ) → ¬ AsksRows words n) → Ends (IsText Usage usage) output.bytes output_then.bytes status)
     → ((n : ℕ) → AsksRows words n → Ends (IsText Done (summary n)) output.bytes output_then.bytes status) → Runs words input input output output_then status
 other_runs words input output output_then status none unread output_told used summed = record {
-  input_told = record { counted = rw unread refl; allowed = λ failed. absurd (let f : true ≡ false = rw failed at unread in cc) };
+  input_told = record { counted = rw unread refl; allowed = λ failed. absurd (let f : true ≡ false = sym failed ∙ unread in cc) };
   output_told = output_told;
   took = took_none (most_taken status) input.bytes;
   command = λ c is. absurd (let f : None ≡ Some c = none ∙ is in cc);

@@ -53,7 +53,7 @@ returns-in-Ok-clause-done g c =
     let image = g.C.CompressorPlugin.image (g.C.CompressorPlugin.kind c.args.compressor.now) in
     let u : Active = g.O.Order.active c.args.order.now in
     let w = c.in-Ok.ensures.done in
-    (w.0, own_stepped (setting_of c.args.ctx.now image) u w.0 (g.O.Order.outlet c.args.order.now) c.args.task.now c.requires.ready (g.O.Order.outlet c.advance.new.order) (record { head = c.advance.new.head; kids = c.advance.new.kids }) c.in_ok-name.name c.in-Ok.action c.in_ok-task.ensures.cases w.1)
+    (w.0, own_stepped (setting_of c.args.ctx.now image) u w.0 (g.O.Order.outlet c.args.order.now) c.args.task.now c.requires.ready (g.O.Order.outlet c.advance.new.order) (record { head = c.advance.new.head; kids = c.advance.new.kids }) c.in_ok-name.name c.in-Ok.action c.in_ok-name.ensures.cases w.1)
 
 pub returns-in-Err-clause-refused : goal.returns-in-Err-clause-refused
 returns-in-Err-clause-refused g c = λ number.
