@@ -1,5 +1,5 @@
 -- What a write has appended, and what stands where all is done.
-use Rattle.std.proofs.Common.{◌≡◌, ◌+◌, ◌++◌, ◌∙◌, ℕ, Bool, true, false, not, List, map, refl, sym, ap, subst, arith, []}
+use Rattle.std.proofs.Common.{◌≡◌, ◌+◌, ◌++◌, ◌∙◌, ℕ, Bool, true, false, not, List, map, length, refl, sym, ap, subst, arith, []}
 use Rattle.vx_model.specs.ChunkData.{ChunkData}
 use Rattle.vx_tasks.specs.Task.{refuses_in}
 use Rattle.vx_tasks.specs.State.{left}
@@ -8,36 +8,36 @@ use Rattle.vx_tasks.specs.Run.{Note}
 use Rattle.vx_tasks.specs.Runs.{first_batch}
 use Rattle.vx_tasks.proofs.Runs.{at_the_end}
 use Rattle.vx_tasks.proofs.Scripts.{no_true}
-use Rattle.vx_plan.specs.PlanData.{Pair}
+use Rattle.vx_plan.specs.PlanData.{Pair, Plan}
 use Rattle.vx_plan.specs.Number.{sorted}
 use Rattle.vx_machine_turns.specs.Acts.{raised_in, lowered_in}
 use Rattle.vx_machine_turns.specs.Readings.{fault_reading, layout_reading, raise_reading, lower_reading}
 use Rattle.vx_machine_turns.specs.Plain.{task_of, script_reading}
 use Rattle.vx_machine_turns.specs.Source.{source_acts, source_seed}
 use Rattle.vx_machine_turns.specs.Forms.{form_nodes}
-use Rattle.vx_machine_turns.proofs.WholeLaws.{source_is_silent}
+use Rattle.vx_machine_turns.proofs.WholeLaws.{source_is_silent, root_is_source}
 use Rattle.vx_strategy_spec.specs.Walk.{walk}
 use Rattle.vx_named_tasks.specs.Names.{onward, root_outset}
+use Rattle.vx_named_tasks.proofs.NamedLaws.{root_begins}
 use Rattle.vx_machine_steps.specs.Tree.{read, forest, counts}
 use Rattle.vx_machine_steps.specs.Moves.{all_over, view}
 use Rattle.vx_machine_steps.specs.Runs.{acts_of, done}
 use Rattle.vx_machine_steps.proofs.Joins.{refuses-plain}
 use Rattle.vx_machine_steps.proofs.Laws.{end_is_free, over_is_done}
 use Rattle.vx_machine_steps.proofs.Unrefused.{none_refused}
-use Rattle.vx_machine_steps.proofs.Sorted.{appended_first, all_sorted}
+use Rattle.vx_machine_steps.proofs.Sorted.{all_sorted}
 use Rattle.vx_machine_steps.proofs.Start.{start_reads}
 use Rattle.vx_machine_steps.proofs.Summed.{sum_raised, sum_lowered, raised_start, lowered_start}
 use Rattle.vx_machine_promises.specs.Write.{Write, Future, depth, begin, scripts, planned}
 use Rattle.vx_machine_promises.specs.Reached.{Reached}
 use Rattle.vx_machine_promises.specs.Promises.{HistoryIsFirst, EndIsPlanned}
-use Rattle.vx_machine_promises.proofs.Standing.{at_start, runs, stands, leads_on, reads}
+use Rattle.vx_machine_promises.proofs.Standing.{history_first_at, at_start, runs, stands, leads_on, reads}
 use Rattle.vx_machine_promises.proofs.Noting.{nothing_left}
 
 pub history_is_first : HistoryIsFirst
 history_is_first g taken f seen history tracker r =
-    let h = appended_first g.setting (depth g) (begin g taken f) r.tree r.moves (at_start g taken f seen history tracker r).stands (at_start g taken f seen history tracker r).order
-    (at_start g taken f seen history tracker r).zeros (runs g taken f seen history tracker r) (at_start g taken f seen history tracker r).one in
-    (h.0, ap sorted (sym (at_start g taken f seen history tracker r).pairs) ∙ h.1 ∙ ap (λ z. z ++ h.0) (sym r.wrote), h.2)
+    let h = history_first_at g root_outset taken f seen history tracker r (root_begins (length (taken ++ f.later))) in
+    (h.0, ap (λ (p : Plan). sorted p.pairs) (sym (root_is_source g.setting g.way g.type g.mark (taken ++ f.later) f.fits)) ∙ h.1, h.2)
 
 not_false : (b : Bool) → not b ≡ false → b ≡ true
 not_false true e = refl

@@ -4,19 +4,23 @@ use Rattle.vx_model.specs.ChunkData.{ChunkData}
 use Rattle.vx_tasks.specs.Run.{Note, nth}
 use Rattle.vx_tasks.specs.Runs.{noted}
 use Rattle.vx_tasks.proofs.Scripts.{no_true}
+use Rattle.vx_named_tasks.specs.Names.{Outset, root_outset}
 use Rattle.vx_plan.specs.PlanData.{Pair}
 use Rattle.vx_machine_turns.specs.Acts.{written_by, raised_in, lowered_in}
 use Rattle.vx_machine_steps.specs.Moves.{TreeMove, machine_moves}
 use Rattle.vx_machine_steps.specs.Runs.{pick_of, RunsBy, notes, picks_after, acts_of, appended}
-use Rattle.vx_machine_steps.specs.StartPlanned.{started}
+use Rattle.vx_machine_steps.specs.StartPlanned.{started_at}
 use Rattle.vx_machine_steps.proofs.Noted.{notes_grow}
-use Rattle.vx_machine_promises.specs.Write.{Write, Future, Open, Answer, unasked, came, over, depth, begin, taken_by, heard_by, before}
-use Rattle.vx_machine_promises.specs.Reached.{Reached, moves_at, pick_at, Stepped}
-use Rattle.vx_machine_promises.specs.Promises.{StartIsReached, StepIsReached}
-use Rattle.vx_machine_promises.proofs.Standing.{as_many}
+use Rattle.vx_machine_promises.specs.Write.{Write, Future, Open, Answer, unasked, came, over, depth, begin_at, taken_by, heard_by, before}
+use Rattle.vx_machine_promises.specs.Reached.{ReachedAt, moves_at, pick_at, Stepped}
+use Rattle.vx_machine_promises.specs.Promises.{StartIsReachedAt, StepIsReachedAt, StartIsReached, StepIsReached}
+use Rattle.vx_machine_promises.proofs.Standing.{as_many_at}
+
+pub start_is_reached_at : (o : Outset) → StartIsReachedAt o
+start_is_reached_at o g f = (record { tree = begin_at g o [] f; moves = []; runs = refl; seen_is = refl; wrote = refl; tracked = refl }, refl)
 
 pub start_is_reached : StartIsReached
-start_is_reached g f = (record { tree = begin g [] f; moves = []; runs = refl; seen_is = refl; wrote = refl; tracked = refl }, refl)
+start_is_reached = start_is_reached_at root_outset
 
 -- what one more move appends and counts
 
@@ -32,23 +36,23 @@ lowered_more : (ms : List TreeMove) (m : TreeMove) → lowered_in (acts_of (ms +
 lowered_more [] m = omega arith
 lowered_more (x ∷ ms) m = let h : lowered_in (acts_of (ms ++ (m ∷ []))) ≡ lowered_in (acts_of ms) + m.act.lowers = lowered_more ms m in omega (arith, h)
 
-module _ (g : Write) (taken : List ChunkData) (f : Future) (seen : List Note) (history history_then : List Pair) (tracker tracker_then : ℕ) (n : Note)
-    (r : Reached g taken f seen history tracker) (st : Stepped g r.tree seen n history history_then tracker tracker_then) where
+module _ (g : Write) (o : Outset) (taken : List ChunkData) (f : Future) (seen : List Note) (history history_then : List Pair) (tracker tracker_then : ℕ) (n : Note)
+    (r : ReachedAt g o taken f seen history tracker) (st : Stepped g r.tree seen n history history_then tracker tracker_then) where
   same_pick : pick_at g r.tree seen ≡ pick_of g.setting (depth g) r.tree (picks_after (length r.moves) g.schedule)
-  same_pick = ap (λ z. pick_of g.setting (depth g) r.tree (picks_after z g.schedule)) (as_many g taken f seen history tracker r)
+  same_pick = ap (λ z. pick_of g.setting (depth g) r.tree (picks_after z g.schedule)) (as_many_at g o taken f seen history tracker r)
 
-  grown : RunsBy g.setting (depth g) (begin g taken f) g.schedule (r.moves ++ (st.move ∷ [])) st.move.after
-      × (notes g.setting (depth g) (begin g taken f) g.schedule (r.moves ++ (st.move ∷ [])) ≡ notes g.setting (depth g) (begin g taken f) g.schedule r.moves
+  grown : RunsBy g.setting (depth g) (begin_at g o taken f) g.schedule (r.moves ++ (st.move ∷ [])) st.move.after
+      × (notes g.setting (depth g) (begin_at g o taken f) g.schedule (r.moves ++ (st.move ∷ [])) ≡ notes g.setting (depth g) (begin_at g o taken f) g.schedule r.moves
       ++ (noted (length (machine_moves g.setting (depth g) r.tree)) (pick_of g.setting (depth g) r.tree (picks_after (length r.moves) g.schedule)) st.move.name st.move.act.kind ∷ []))
-  grown = notes_grow g.setting (depth g) (begin g taken f) r.tree g.schedule r.moves st.move r.runs (ap (nth (moves_at g r.tree)) (sym same_pick) ∙ st.picked) st.done
+  grown = notes_grow g.setting (depth g) (begin_at g o taken f) r.tree g.schedule r.moves st.move r.runs (ap (nth (moves_at g r.tree)) (sym same_pick) ∙ st.picked) st.done
 
-  pub reached_then : Reached g taken f (seen ++ (n ∷ [])) history_then tracker_then
+  pub reached_then : ReachedAt g o taken f (seen ++ (n ∷ [])) history_then tracker_then
   reached_then = record {
     tree = st.move.after;
     moves = r.moves ++ (st.move ∷ []);
     runs = grown.0;
     seen_is = ap (λ z. z ++ (n ∷ [])) r.seen_is
-        ∙ ap (λ z. notes g.setting (depth g) (begin g taken f) g.schedule r.moves ++ (z ∷ []))
+        ∙ ap (λ z. notes g.setting (depth g) (begin_at g o taken f) g.schedule r.moves ++ (z ∷ []))
         (st.note_is ∙ ap (λ z. noted (length (moves_at g r.tree)) z st.move.name st.move.act.kind) same_pick)
         ∙ sym grown.1;
     wrote = st.wrote ∙ ap (λ z. z ++ written_by st.move.act.kind st.move.act.bytes) r.wrote ∙ sym (appended_more r.moves st.move);
@@ -60,9 +64,9 @@ module _ (g : Write) (taken : List ChunkData) (f : Future) (seen : List Note) (h
   }
 
 -- the same run, from a start that is the same
-moved_over : (g : Write) (xs ys : List ChunkData) (f h : Future) (seen : List Note) (history : List Pair) (tracker : ℕ) → begin g xs f ≡ begin g ys h → (r : Reached g xs f seen history tracker)
-    → (q : Reached g ys h seen history tracker) × (q.tree ≡ r.tree)
-moved_over g xs ys f h seen history tracker e r = (
+moved_over : (g : Write) (o : Outset) (xs ys : List ChunkData) (f h : Future) (seen : List Note) (history : List Pair) (tracker : ℕ) → begin_at g o xs f ≡ begin_at g o ys h → (r : ReachedAt g o xs f seen history tracker)
+    → (q : ReachedAt g o ys h seen history tracker) × (q.tree ≡ r.tree)
+moved_over g o xs ys f h seen history tracker e r = (
   record {
     tree = r.tree;
     moves = r.moves;
@@ -74,16 +78,19 @@ moved_over g xs ys f h seen history tracker e r = (
   refl,
 )
 
-same_begin : (g : Write) (taken : List ChunkData) (a : Answer) (f : Future) → begin g taken (before a f) ≡ begin g (taken_by taken a) f
-same_begin g taken unasked f = refl
-same_begin g taken (came b) f = ap (λ z. started g.way g.type g.mark z f.fits) (sym (append_assoc taken (b ∷ []) f.later))
-same_begin g taken over f = refl
+same_begin : (g : Write) (o : Outset) (taken : List ChunkData) (a : Answer) (f : Future) → begin_at g o taken (before a f) ≡ begin_at g o (taken_by taken a) f
+same_begin g o taken unasked f = refl
+same_begin g o taken (came b) f = ap (λ z. started_at g.way g.type g.mark o z f.fits) (sym (append_assoc taken (b ∷ []) f.later))
+same_begin g o taken over f = refl
+
+pub step_is_reached_at : (o : Outset) → StepIsReachedAt o
+unfolding reached_then
+step_is_reached_at o g taken a f seen history history_then tracker tracker_then n r st =
+    moved_over g o taken (taken_by taken a) (before a f) f (seen ++ (n ∷ [])) history_then tracker_then (same_begin g o taken a f)
+    (reached_then g o taken (before a f) seen history history_then tracker tracker_then n r st)
 
 pub step_is_reached : StepIsReached
-unfolding reached_then
-step_is_reached g taken a f seen history history_then tracker tracker_then n r st =
-    moved_over g taken (taken_by taken a) (before a f) f (seen ++ (n ∷ [])) history_then tracker_then (same_begin g taken a f)
-    (reached_then g taken (before a f) seen history history_then tracker tracker_then n r st)
+step_is_reached = step_is_reached_at root_outset
 
 -- A write that is under way goes on so, where a batch comes only while the end isn't told; `Then` is what the machine shows then.
 

@@ -2,12 +2,14 @@
 use Rattle.std.specs.Prelude.{◌≡◌, ℕ, suc, ◌+◌, ◌^◌, ◌<◌, ◌≤◌, ◌⊎◌, Bool, true, List, [], ◌∷◌, ◌++◌, map, length, Some, None, IsTrue, IsFalse}
 use Rattle.vx_model.specs.ChunkData.{ChunkData}
 use Rattle.vx_path.specs.Lists.{In}
+use Rattle.vx_path.specs.Path.{Scattered}
 use Rattle.vx_tasks.specs.State.{left}
 use Rattle.vx_tasks.specs.State.Counts.{Zeros}
 use Rattle.vx_tasks.specs.Rules.{AtLeast}
 use Rattle.vx_tasks.specs.Run.{Note, nth, note, run, trace, work}
+use Rattle.vx_named_tasks.specs.Names.{Outset, root_outset, CanBegin}
 use Rattle.vx_cut_laws.specs.Cut.{cut}
-use Rattle.vx_plan.specs.PlanData.{Pair, What}
+use Rattle.vx_plan.specs.PlanData.{Pair, What, paths}
 use Rattle.vx_plan.specs.SourcePlan.{start_fault, taken_plan}
 use Rattle.vx_plan.specs.Number.{sorted}
 use Rattle.vx_plan.specs.Valid.{Has, Fit, OfSchema}
@@ -20,25 +22,61 @@ use Rattle.vx_strategy_spec.specs.Walk.{walk}
 use Rattle.vx_machine_steps.specs.Tree.{Tree, read, counts, opened}
 use Rattle.vx_machine_steps.specs.Moves.{TreeMove, all_paths, all_over}
 use Rattle.vx_machine_steps.specs.Start.{root_seed}
-use Rattle.vx_machine_promises.specs.Write.{Write, Future, Answer, depth, begin, scripts, planned, taken_by, before}
-use Rattle.vx_machine_promises.specs.Reached.{Reached, moves_at, pick_at, Stepped}
+use Rattle.vx_machine_steps.specs.Stands.{Stands}
+use Rattle.vx_machine_promises.specs.Write.{Write, Future, Answer, depth, begin_at, scripts_at, planned_at, scripts, planned, taken_by, before}
+use Rattle.vx_machine_promises.specs.Reached.{ReachedAt, Reached, moves_at, pick_at, Stepped}
 
 -- what holds wherever a write has come, of the state there
 abbrev pub Promise : ((g : Write) → List ChunkData → Future → List Note → List Pair → ℕ → Tree → Type 0) → Type 0
 Promise P = (g : Write) (taken : List ChunkData) (f : Future) (seen : List Note) (history : List Pair) (tracker : ℕ) (r : Reached g taken f seen history tracker)
     → P g taken f seen history tracker r.tree
 
--- ---- steps
+-- and wherever it begins, where it can with the batches taken and those that come
+abbrev pub PromiseAt : Outset → ((g : Write) → List ChunkData → Future → List Note → List Pair → ℕ → Tree → Type 0) → Type 0
+PromiseAt o P = (g : Write) (taken : List ChunkData) (f : Future) (seen : List Note) (history : List Pair) (tracker : ℕ) (r : ReachedAt g o taken f seen history tracker)
+    → CanBegin o (length (taken ++ f.later)) → P g taken f seen history tracker r.tree
+
+-- ---- steps, wherever it begins
 
 -- the start
-abbrev pub StartIsReached : Type 0
-StartIsReached = (g : Write) (f : Future) → (r : Reached g [] f [] [] g.tracker) × (r.tree ≡ begin g [] f)
+abbrev pub StartIsReachedAt : Outset → Type 0
+StartIsReachedAt o = (g : Write) (f : Future) → (r : ReachedAt g o [] f [] [] g.tracker) × (r.tree ≡ begin_at g o [] f)
 
 -- one step more: with the batch that it takes, the future is without it
+abbrev pub StepIsReachedAt : Outset → Type 0
+StepIsReachedAt o = (g : Write) (taken : List ChunkData) (a : Answer) (f : Future) (seen : List Note) (history history_then : List Pair) (tracker tracker_then : ℕ) (n : Note)
+    (r : ReachedAt g o taken (before a f) seen history tracker) (st : Stepped g r.tree seen n history history_then tracker tracker_then)
+    → (q : ReachedAt g o (taken_by taken a) f (seen ++ (n ∷ [])) history_then tracker_then) × (q.tree ≡ st.move.after)
+
+-- the state stands
+abbrev pub StateStandsAt : Outset → Type 0
+StateStandsAt o = PromiseAt o (λ g taken f seen history tracker t. Stands g.setting (depth g) t)
+
+-- where not all is done, something can be done
+abbrev pub SomethingIsReadyAt : Outset → Type 0
+SomethingIsReadyAt o = PromiseAt o (λ g taken f seen history tracker t. IsFalse (all_over t) → 0 < length (moves_at g t))
+
+-- each move lowers the work left by one, in the tree of scripts in which a refusal ends its task
+abbrev pub WorkFallsAt : Outset → Type 0
+WorkFallsAt o = PromiseAt o (λ g taken f seen history tracker t. (m : TreeMove) → In m (moves_at g t)
+    → suc (left (cut (scripts_at g o taken f)) (counts m.after)) ≡ left (cut (scripts_at g o taken f)) (counts t))
+
+-- what was appended are the first of all pairs in order of path; the paths of the others are at least some held one
+abbrev pub HistoryIsFirstAt : Outset → Type 0
+HistoryIsFirstAt o = PromiseAt o (λ g taken f seen history tracker t. (more : List Pair) × (sorted (planned_at g o taken f).pairs ≡ history ++ more)
+    × ((x : Pair) → In x more → AtLeast (all_paths t) x.0))
+
+-- no path of the plan is a prefix of another's
+abbrev pub PathsAreApartAt : Outset → Type 0
+PathsAreApartAt o = (g : Write) (taken : List ChunkData) (f : Future) → CanBegin o (length (taken ++ f.later)) → Scattered (paths (planned_at g o taken f).pairs)
+
+-- those of a whole write
+
+abbrev pub StartIsReached : Type 0
+StartIsReached = StartIsReachedAt root_outset
+
 abbrev pub StepIsReached : Type 0
-StepIsReached = (g : Write) (taken : List ChunkData) (a : Answer) (f : Future) (seen : List Note) (history history_then : List Pair) (tracker tracker_then : ℕ) (n : Note)
-    (r : Reached g taken (before a f) seen history tracker) (st : Stepped g r.tree seen n history history_then tracker tracker_then)
-    → (q : Reached g (taken_by taken a) f (seen ++ (n ∷ [])) history_then tracker_then) × (q.tree ≡ st.move.after)
+StepIsReached = StepIsReachedAt root_outset
 
 -- ---- nothing gets stuck, and the work left falls
 

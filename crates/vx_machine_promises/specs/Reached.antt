@@ -3,21 +3,27 @@ use Rattle.std.specs.Prelude.{◌≡◌, ℕ, ◌+◌, Bool, List, ◌++◌, len
 use Rattle.vx_model.specs.ChunkData.{ChunkData}
 use Rattle.vx_tasks.specs.Run.{Note, nth}
 use Rattle.vx_tasks.specs.Runs.{noted}
+use Rattle.vx_named_tasks.specs.Names.{Outset, root_outset}
 use Rattle.vx_plan.specs.PlanData.{Pair}
 use Rattle.vx_machine_turns.specs.Acts.{refuses, written_by, raised_in, lowered_in}
 use Rattle.vx_machine_steps.specs.Tree.{Tree}
 use Rattle.vx_machine_steps.specs.Moves.{TreeMove, machine_moves}
 use Rattle.vx_machine_steps.specs.Runs.{pick_of, RunsBy, notes, picks_after, acts_of, appended}
-use Rattle.vx_machine_promises.specs.Write.{Write, Future, Open, depth, begin}
+use Rattle.vx_machine_promises.specs.Write.{Write, Future, Open, depth, begin_at}
 
--- A run under the schedule from the start of this future: what was noted and appended of it, and what the tracker counts.
-pub record Reached (g : Write) (taken : List ChunkData) (f : Future) (seen : List Note) (history : List Pair) (tracker : ℕ) : Type 0 where
+-- A run under the schedule from the start of this future, wherever it begins: what was noted and appended of it, and what the tracker
+-- counts.
+pub record ReachedAt (g : Write) (o : Outset) (taken : List ChunkData) (f : Future) (seen : List Note) (history : List Pair) (tracker : ℕ) : Type 0 where
   pub tree : Tree
   pub moves : List TreeMove
-  pub runs : RunsBy g.setting (depth g) (begin g taken f) g.schedule moves tree
-  pub seen_is : seen ≡ notes g.setting (depth g) (begin g taken f) g.schedule moves
+  pub runs : RunsBy g.setting (depth g) (begin_at g o taken f) g.schedule moves tree
+  pub seen_is : seen ≡ notes g.setting (depth g) (begin_at g o taken f) g.schedule moves
   pub wrote : history ≡ appended moves
   pub tracked : tracker + lowered_in (acts_of moves) ≡ g.tracker + raised_in (acts_of moves)
+
+-- of a whole write
+abbrev pub Reached : Write → List ChunkData → Future → List Note → List Pair → ℕ → Type 0
+Reached g taken f seen history tracker = ReachedAt g root_outset taken f seen history tracker
 
 -- the moves of a state, and the place of the next pick behind so many steps
 

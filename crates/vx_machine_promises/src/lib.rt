@@ -2,7 +2,20 @@
 //! Each function here has an empty body; its contract is a law, proved wherever a write has come.
 #![tactic(auto)]
 
-ghost use Rattle.vx_machine_promises.specs.Promises.{StartIsReached, StepIsReached, SomethingIsReady, WorkFalls, WorkIsShared, SeenIsFirst, SeenIsWhole, AllSteps, FewerSteps, HistoryIsFirst, EndIsPlanned, RefusalsHaveCause, MovesAreCounted, StartIsCounted, ValidIsSound, AppendsFit, TakenIsPlanned};
+ghost use Rattle.vx_named_tasks.specs.Names.{Outset};
+ghost use Rattle.vx_machine_promises.specs.Promises.{StartIsReachedAt, StepIsReachedAt, StateStandsAt, SomethingIsReadyAt, WorkFallsAt, HistoryIsFirstAt, PathsAreApartAt, StartIsReached, StepIsReached, SomethingIsReady, WorkFalls, WorkIsShared, SeenIsFirst, SeenIsWhole, AllSteps, FewerSteps, HistoryIsFirst, EndIsPlanned, RefusalsHaveCause, MovesAreCounted, StartIsCounted, ValidIsSound, AppendsFit, TakenIsPlanned};
+
+/// Wherever a machine begins, over whatever sink: from the start on, step by step; something is ready, each move lowers the work left by
+/// one, and what was appended are the first of all pairs.
+pub fn anywhere()
+    ensures start { (o : Outset) → StartIsReachedAt o }
+    ensures step { (o : Outset) → StepIsReachedAt o }
+    ensures stands { (o : Outset) → StateStandsAt o }
+    ensures ready { (o : Outset) → SomethingIsReadyAt o }
+    ensures falls { (o : Outset) → WorkFallsAt o }
+    ensures front { (o : Outset) → HistoryIsFirstAt o }
+    ensures apart { (o : Outset) → PathsAreApartAt o }
+{}
 
 /// From the start on, step by step.
 pub fn steps()

@@ -21,7 +21,7 @@ use Rattle.vx_machine_state.specs.Zoned.{Zoner, Zones}
 use Rattle.vx_machine_state.specs.State.{Next, put, hand_on, press, probe, open_run, end_run, append, shut_kids, join_kids, start_table, leave_kid, Mind, no_chunk, one_chunk, by_chunk, by_column, by_list, by_block, by_size, as_one, by_image, as_is, by_probe, asking, by_run, by_zone, ending, passing, made, Desk, Tasks, no_tasks, task_then}
 use Rattle.vx_machine_state.specs.Acts.{count, column_count, probed, take_chunk, end_columns, end_lists, end_zones, take_end, do_take, do_act}
 use Rattle.vx_machine_state.specs.Moves.{has_room, Step, may_act, own_step, in_kids, in_rest, steps}
-use Rattle.vx_machine_view.specs.Machine.{Phase, reading, giving, closing, finished, may_source, WholeStep, source_step, in_root, machine_ids}
+use Rattle.vx_machine_view.specs.Machine.{Phase, reading, giving, closing, finished, Machine, may_source, WholeStep, source_step, in_root, whole_steps, machine_ids}
 use Rattle.vx_machine_view.proofs.Words.{typed_is}
 use Rattle.vx_machine_runs.specs.Runs.{Stand, outset, Asking, TypedAnswer, BeforeEnd, Chosen, Done, Led}
 use Rattle.vx_machine_runs.specs.Answers.{AskedBeforeEnd, batch_read, end_read, AnswersAreNoted, TakenAreTyped, WholeAnswer, ToldWhole, TakenAreWhole}
@@ -142,13 +142,13 @@ module _ (s : Setting) (next : ℕ) where
 -- ---- what a step is, by what the source told in it
 
 -- the end was read
-abbrev is_past : Phase → Bool
+abbrev pub is_past : Phase → Bool
 is_past (reading e) = false
 is_past (giving e i) = false
 is_past closing = true
 is_past finished = true
 
-abbrev Tells : Answer → Phase → WholeStep → Type 0
+abbrev pub Tells : Answer → Phase → WholeStep → Type 0
 Tells unasked p w = Quiet w.kind × (is_past p ≡ true → is_past w.after.phase ≡ true)
 Tells (came b) p w = (batch_read w.kind ≡ 1) × (end_read w.kind ≡ 0)
 Tells over p w = (batch_read w.kind ≡ 0) × (end_read w.kind ≡ 1) × (is_past p ≡ false) × (is_past w.after.phase ≡ true)
@@ -180,20 +180,22 @@ module _ (root : Tasks) (rest : List WholeStep) (w : WholeStep) (fit : w.misfit 
       by (inr j) = among closing others j
   tells finished k told a at others = subst (λ z. Tells z finished w) (sym a) (among finished others (nth_in rest k w at))
 
-chosen_tells : (g : Write) (first : ℕ) (x : Stand) (told : Answer) (k : ℕ) (w : WholeStep) → Chosen g first x told k w → Tells told x.machine.phase w
-chosen_tells g first x told k w c = tells x.machine.root rest w c.fits x.machine.phase k told c.asks c.place others
+-- whatever number the next segment has
+pub step_tells : (s : Setting) (number : ℕ) (m : Machine) (told : Answer) (k : ℕ) (w : WholeStep) → nth (whole_steps s (machine_ids m) number told m) k ≡ Some w → Asking m.phase k told → w.misfit ≡ false
+    → Tells told m.phase w
+step_tells s number m told k w place asks fits = tells m.root rest w fits m.phase k told asks place others
   where
     rest : List WholeStep
-    rest = map (in_root x.machine.phase) (steps g.setting (machine_ids x.machine) (first + length x.history) x.machine.root)
+    rest = map (in_root m.phase) (steps s (machine_ids m) number m.root)
 
-    others : (v : WholeStep) → In v rest → Quiet v.kind × (v.after.phase ≡ x.machine.phase)
-    others v i = by (from_map (in_root x.machine.phase) v (steps g.setting (machine_ids x.machine) (first + length x.history) x.machine.root) i)
+    others : (v : WholeStep) → In v rest → Quiet v.kind × (v.after.phase ≡ m.phase)
+    others v i = by (from_map (in_root m.phase) v (steps s (machine_ids m) number m.root) i)
       where
-        by : (y : Step) × In y (steps g.setting (machine_ids x.machine) (first + length x.history) x.machine.root) × (v ≡ in_root x.machine.phase y) → Quiet v.kind × (v.after.phase ≡ x.machine.phase)
-        by (y, j, e) = (
-          subst (λ (z : WholeStep). Quiet z.kind) (sym e) (steps_quiet g.setting (first + length x.history) (machine_ids x.machine) x.machine.root y j),
-          ap (λ (z : WholeStep). z.after.phase) e,
-        )
+        by : (y : Step) × In y (steps s (machine_ids m) number m.root) × (v ≡ in_root m.phase y) → Quiet v.kind × (v.after.phase ≡ m.phase)
+        by (y, j, e) = (subst (λ (z : WholeStep). Quiet z.kind) (sym e) (steps_quiet s number (machine_ids m) m.root y j), ap (λ (z : WholeStep). z.after.phase) e)
+
+chosen_tells : (g : Write) (first : ℕ) (x : Stand) (told : Answer) (k : ℕ) (w : WholeStep) → Chosen g first x told k w → Tells told x.machine.phase w
+chosen_tells g first x told k w c = step_tells g.setting (first + length x.history) x.machine told k w c.place c.asks c.fits
 
 -- ---- runs
 
@@ -265,8 +267,9 @@ answers_are_noted g first ns x l =
     no_more : (n : ℕ) → n + 0 ≡ n
     no_more n = omega arith
 
-pub asked_before_end : AskedBeforeEnd
-asked_before_end g first ns x told k l a = by told x.machine.phase k refl a (from_start g first ns x l).2
+-- it is asked only where it reads
+pub before_end : (heard : Bool) (told : Answer) (p : Phase) (k : ℕ) → (heard ≡ true → is_past p ≡ true) → Asking p k told → BeforeEnd heard told
+before_end heard told p k past asks = by told p k past asks
   where
     no_batch : (b : ChunkData) → came b ≡ unasked → ⊥
     no_batch b e = cc
@@ -274,26 +277,25 @@ asked_before_end g first ns x told k l a = by told x.machine.phase k refl a (fro
     no_end : over ≡ unasked → ⊥
     no_end e = cc
 
-    -- where it reads
-    open_still : (here : Eof) → x.machine.phase ≡ reading here → Past x → x.heard ≡ false
-    open_still here e h = of x.heard refl
-      where
-        of : (b : Bool) → x.heard ≡ b → x.heard ≡ false
-        of false q = q
-        of true q = absurd (true≢false (sym (h q) ∙ ap is_past e))
+    open_still : (b : Bool) → (b ≡ true → false ≡ true) → b ≡ false
+    open_still false h = refl
+    open_still true h = absurd (true≢false (sym (h refl)))
 
-    by : (told : Answer) (p : Phase) (k : ℕ) → x.machine.phase ≡ p → Asking p k told → Past x → BeforeEnd x.heard told
-    by unasked p k e a h = tt
-    by (came b) (reading here) zero e a h = open_still here e h
-    by (came b) (reading here) (suc k) e a h = absurd (no_batch b a)
-    by (came b) (giving here i) k e a h = absurd (no_batch b a)
-    by (came b) closing k e a h = absurd (no_batch b a)
-    by (came b) finished k e a h = absurd (no_batch b a)
-    by over (reading here) zero e a h = open_still here e h
-    by over (reading here) (suc k) e a h = absurd (no_end a)
-    by over (giving here i) k e a h = absurd (no_end a)
-    by over closing k e a h = absurd (no_end a)
-    by over finished k e a h = absurd (no_end a)
+    by : (told : Answer) (p : Phase) (k : ℕ) → (heard ≡ true → is_past p ≡ true) → Asking p k told → BeforeEnd heard told
+    by unasked p k h a = tt
+    by (came b) (reading here) zero h a = open_still heard h
+    by (came b) (reading here) (suc k) h a = absurd (no_batch b a)
+    by (came b) (giving here i) k h a = absurd (no_batch b a)
+    by (came b) closing k h a = absurd (no_batch b a)
+    by (came b) finished k h a = absurd (no_batch b a)
+    by over (reading here) zero h a = open_still heard h
+    by over (reading here) (suc k) h a = absurd (no_end a)
+    by over (giving here i) k h a = absurd (no_end a)
+    by over closing k h a = absurd (no_end a)
+    by over finished k h a = absurd (no_end a)
+
+pub asked_before_end : AskedBeforeEnd
+asked_before_end g first ns x told k l a = before_end x.heard told x.machine.phase k (from_start g first ns x l).2 a
 
 -- ---- the batches taken
 

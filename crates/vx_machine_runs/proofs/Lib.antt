@@ -9,6 +9,7 @@ pub mod Sounding
 pub mod Tracing
 pub mod Picking
 pub mod Tracking
+pub mod Coursing
 pub mod Covers
 pub mod GroupCovering
 pub mod PressCovering

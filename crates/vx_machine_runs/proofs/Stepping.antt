@@ -1,5 +1,5 @@
 -- A run is a write that is under way.
-use Rattle.std.proofs.Common.{◌≡◌, ◌+◌, ◌%◌, ◌<◌, ◌∷◌, ◌++◌, ◌∙◌, ℕ, zero, suc, Bool, true, List, map, length, refl, sym, ap, subst, arith, Some, None, append_assoc, append-nil, []}
+use Rattle.std.proofs.Common.{◌≡◌, ◌+◌, ◌%◌, ◌<◌, ◌∷◌, ◌++◌, ◌∙◌, ℕ, zero, suc, Bool, true, false, List, map, length, refl, sym, ap, subst, arith, Some, None, append_assoc, append-nil, []}
 use Rattle.std.proofs.Math.Nat.{mod-eq_of_lt}
 use Rattle.std.proofs.lemmas.Bool.{true≢false}
 use Rattle.vx_model.specs.Ty.{Ty}
@@ -50,9 +50,14 @@ asked t f (giving e i) k a h ty never = h
 asked t f closing k a h ty never = h
 asked t f finished k a h ty never = h
 
+-- of a ready step that finds no chunk of another type, whatever number the next segment has
+pub asks_by : (s : Setting) (t : Ty) (all : List (List ℕ)) (number : ℕ) (m : Machine) (told : Answer) (k : ℕ) (w : WholeStep) (f : Future) → nth (whole_steps s all number told m) k ≡ Some w → Asking m.phase k told
+    → TypedAnswer t told → w.misfit ≡ false → Asks t f m.phase k told
+asks_by s t all number m told k w f place asks typed fits = asked t f m.phase k told asks typed
+    (λ e is z u. true≢false (sym (misfits s all number m e w is (subst (λ a. nth (whole_steps s all number a m) 0 ≡ Some w) u (subst (λ j. nth (whole_steps s all number told m) j ≡ Some w) z place))) ∙ fits))
+
 pub asks_so : (g : Write) (first : ℕ) (x : Stand) (told : Answer) (k : ℕ) (w : WholeStep) (f : Future) → Chosen g first x told k w → Asks g.type f x.machine.phase k told
-asks_so g first x told k w f c = asked g.type f x.machine.phase k told c.asks c.typed
-    (λ e is z u. true≢false (sym (misfits g.setting _ _ x.machine e w is (subst (λ a. nth (ready_steps g first x.history a x.machine) 0 ≡ Some w) u (subst (λ j. nth (ready_steps g first x.history told x.machine) j ≡ Some w) z c.place))) ∙ c.fits))
+asks_so g first x told k w f c = asks_by g.setting g.type (machine_ids x.machine) (first + length x.history) x.machine told k w f c.place c.asks c.typed c.fits
 
 -- ---- the tracker
 

@@ -6,3 +6,4 @@ pub mod Traces
 pub mod Picks
 pub mod Numbers
 pub mod Tracked
+pub mod Courses

@@ -3,6 +3,7 @@
 #![tactic(auto)]
 
 ghost use Rattle.vx_machine_runs.specs.Runs.{StartIsUnderway, StepIsUnderway, RunByIsUnderway, PlacesArePicks, RunIsUnderway, ScheduleIsFree, NumberIsFree};
+ghost use Rattle.vx_machine_runs.specs.Courses.{CourseIsUnderway, CourseIsReady, CourseIsFront, CourseGoesOn};
 ghost use Rattle.vx_machine_runs.specs.Ends.{StaysReady, EndsWhole, StepsHaveCause};
 ghost use Rattle.vx_machine_runs.specs.Steps.{IdleIsFinished, MisfitIsRead, HistoryIsFront, AppendIsOneMore, PastIsCaused, StartIsCaused, ValidIsSound, ValidStarts};
 ghost use Rattle.vx_machine_runs.specs.Answers.{AskedBeforeEnd, AnswersAreNoted, TakenAreTyped, TakenAreWhole};
@@ -21,6 +22,17 @@ pub fn runs()
     ensures free { ScheduleIsFree }
 {
     vx_machine_promises::steps();
+}
+
+/// Wherever a run begins and over whatever sink, also one that others use too: it is under way, something is ready until the machine has
+/// finished, what it has appended are the first pairs of the plan, and each step leaves one act less.
+pub fn courses()
+    ensures underway { CourseIsUnderway }
+    ensures ready { CourseIsReady }
+    ensures front { CourseIsFront }
+    ensures on { CourseGoesOn }
+{
+    vx_machine_promises::anywhere();
 }
 
 /// The number of the next segment is told by appends alone.

@@ -4,9 +4,10 @@ use Rattle.vx_layout_spec.specs.LayoutTree.{renamed}
 use Rattle.vx_model.specs.ChunkData.{ChunkData}
 use Rattle.vx_model.specs.Ty.{Ty}
 use Rattle.vx_path.specs.Path.{Eof}
+use Rattle.vx_named_tasks.specs.Names.{Outset, root_outset}
 use Rattle.vx_plan.specs.PlanData.{Setting}
 use Rattle.vx_machine_turns.specs.Acts.{Seed, Act, shape_in, passes}
-use Rattle.vx_machine_turns.specs.Source.{source_acts, source_seed}
+use Rattle.vx_machine_turns.specs.Source.{source_acts, seed_at, source_seed}
 use Rattle.vx_machine_turns.specs.Readings.{shaped, unread, layout_reading}
 use Rattle.vx_machine_turns.specs.Fuels.{Fuel, spent, fuel, less}
 use Rattle.vx_machine_steps.specs.Tree.{Tree, Leaf, Work, ahead, further, read}
@@ -20,7 +21,7 @@ use Rattle.vx_machine_state.specs.Moves.{is_empty}
 use Rattle.vx_machine_view.specs.Shows.{Stage, Done, Shows, laid, types_of}
 use Rattle.vx_machine_state.specs.Done.{no_more, is_alone, has_layout, is_done}
 use Rattle.vx_machine_view.specs.Machine.{Phase, reading, giving, closing, finished, Machine, has_closed, held_by, phase_ids, machine_ids}
-use Rattle.vx_machine_view.specs.Whole.{SameHeld, ShowsMachine, form_of, phase_acts, PhaseShape, source_at, root_depth, HeldShows, FinishShows, LayoutShows}
+use Rattle.vx_machine_view.specs.Whole.{SameHeld, ShowsMachineAt, ShowsMachine, form_of, phase_acts, PhaseShape, source_from, source_at, root_depth, HeldShowsAt, FinishShowsAt, LayoutShows}
 use Rattle.vx_machine_view.proofs.Words.{no_cons, left_nil, right_nil, no_firsts, and_left, and_right}
 use Rattle.vx_machine_view.proofs.Feeding.{count_types}
 use Rattle.vx_machine_view.proofs.Joining.{Busy, Passed, stage_parts, done_over, and_last, made_is, AllLaid, laid_all}
@@ -29,16 +30,25 @@ use Rattle.vx_machine_view.proofs.Holding.{held_is}
 
 -- ---- what is held
 
-pub held_shows : HeldShows
-held_shows g number f m t st w =
-    subst (SameHeld (machine_ids m)) (sym (append-nil (holding (source_at g w.past (phase_acts m.phase f)) ++ all_paths w.kids)) ∙ ap all_paths (sym w.tree_is))
-    (both_held (phase_ids m.phase) (holding (source_at g w.past (phase_acts m.phase f))) (held_by m.root) (all_paths w.kids) (same_held (sym w.held))
-    (held_is g.setting number (root_depth g) (source_seed (form_of g) g.mark) 0 m.root w.kids w.root (subst KidsHold w.tree_is st.holds).0))
+pub held_shows_at : (o : Outset) → HeldShowsAt o
+held_shows_at o g number f m t st w =
+    subst (SameHeld (machine_ids m)) (sym (append-nil (holding (source_from g o w.past (phase_acts m.phase f)) ++ all_paths w.kids)) ∙ ap all_paths (sym w.tree_is))
+    (both_held (phase_ids m.phase) (holding (source_from g o w.past (phase_acts m.phase f))) (held_by m.root) (all_paths w.kids) (same_held (sym w.held))
+    (held_is g.setting number (root_depth g) (seed_at (form_of g) g.mark o) 0 m.root w.kids w.root (subst KidsHold w.tree_is st.holds).0))
 
 -- so the same can be done
+pub moves_shows_at : (g : Write) (o : Outset) (number : List ℕ → ℕ) (f : Future) (m : Machine) (t : Tree) → Stands g.setting (depth g) t → ShowsMachineAt g o number m f t
+    → tree_moves g.setting (machine_ids m) (depth g) t ≡ tree_moves g.setting (all_paths t) (depth g) t
+moves_shows_at g o number f m t st w = moves_least g.setting (machine_ids m) (all_paths t) (depth g) t (held_shows_at o g number f m t st w)
+
+-- in a whole write
+
+pub held_shows : HeldShowsAt root_outset
+held_shows = held_shows_at root_outset
+
 pub moves_shows : (g : Write) (number : List ℕ → ℕ) (f : Future) (m : Machine) (t : Tree) → Stands g.setting (depth g) t → ShowsMachine g number m f t
     → tree_moves g.setting (machine_ids m) (depth g) t ≡ tree_moves g.setting (all_paths t) (depth g) t
-moves_shows g number f m t st w = moves_least g.setting (machine_ids m) (all_paths t) (depth g) t (held_shows g number f m t st w)
+moves_shows g number f m t st w = moves_shows_at g root_outset number f m t st w
 
 -- ---- the end
 
@@ -127,22 +137,25 @@ module _ (s : Setting) (number : List ℕ → ℕ) where
           ∙ ap (λ z. no_more ks && (is_empty z && is_empty c.inbox)) e.idle
           ∙ ap (λ z. no_more z && is_empty c.inbox) e.no_kids ∙ ap is_empty (empty over) ∙ sym over
 
-pub finish_shows : FinishShows
-finish_shows g number f m t st w = by m.phase refl ∙ sym (ap all_over w.tree_is ∙ whole_over m.phase f (all_over w.kids))
+pub finish_shows_at : (o : Outset) → FinishShowsAt o
+finish_shows_at o g number f m t st w = by m.phase refl ∙ sym (ap all_over w.tree_is ∙ whole_over m.phase f (all_over w.kids))
   where
     open_root : (p : Phase) → m.phase ≡ p → has_closed p ≡ true → all_over w.kids ≡ true → all_paths w.kids ≡ []
-    open_root p e c o =
-        let over : all_over t ≡ true = ap all_over w.tree_is ∙ whole_over m.phase f (all_over w.kids) ∙ ap (λ z. has_closed z && all_over w.kids) e ∙ ap (λ z. z && all_over w.kids) c ∙ o in
+    open_root p e c below =
+        let over : all_over t ≡ true = ap all_over w.tree_is ∙ whole_over m.phase f (all_over w.kids) ∙ ap (λ z. has_closed z && all_over w.kids) e ∙ ap (λ z. z && all_over w.kids) c ∙ below in
         let none : all_paths t ≡ [] = end_is_free g.setting (depth g) t st over in
-        right_nil (holding (source_at g w.past (phase_acts m.phase f))) (all_paths w.kids)
-        (left_nil (holding (source_at g w.past (phase_acts m.phase f)) ++ all_paths w.kids) [] (sym (ap all_paths w.tree_is) ∙ none))
+        right_nil (holding (source_from g o w.past (phase_acts m.phase f))) (all_paths w.kids)
+        (left_nil (holding (source_from g o w.past (phase_acts m.phase f)) ++ all_paths w.kids) [] (sym (ap all_paths w.tree_is) ∙ none))
 
     by : (p : Phase) → m.phase ≡ p → (has_closed m.phase && is_done m.root) ≡ (has_closed m.phase && all_over w.kids)
     by (reading e) q = ap (λ z. has_closed z && is_done m.root) q ∙ sym (ap (λ z. has_closed z && all_over w.kids) q)
     by (giving e i) q = ap (λ z. has_closed z && is_done m.root) q ∙ sym (ap (λ z. has_closed z && all_over w.kids) q)
     by closing q = ap (λ z. has_closed z && is_done m.root) q ∙ sym (ap (λ z. has_closed z && all_over w.kids) q)
     by finished q = ap (λ z. has_closed m.phase && z)
-        (root_done g.setting number (root_depth g) (source_seed (form_of g) g.mark) g.type m.root w.kids w.one w.root (open_root finished q refl))
+        (root_done g.setting number (root_depth g) (seed_at (form_of g) g.mark o) g.type m.root w.kids w.one w.root (open_root finished q refl))
+
+pub finish_shows : FinishShowsAt root_outset
+finish_shows = finish_shows_at root_outset
 
 -- ---- the layout
 

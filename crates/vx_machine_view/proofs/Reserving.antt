@@ -6,7 +6,7 @@ use Rattle.vx_model.specs.Ty.{Ty, list, struct}
 use Rattle.vx_model.specs.ChunkData.{ChunkData, held}
 use Rattle.vx_path.specs.Lists.{In}
 use Rattle.vx_path.proofs.Lists.{in_cases, from_map}
-use Rattle.vx_path.specs.Path.{Eof, under, inside, next}
+use Rattle.vx_path.specs.Path.{Eof, under, inside, next, root_eof}
 use Rattle.vx_rules.specs.Blocks.{block_len}
 use Rattle.vx_rules.specs.Flushes.{flushed, still_held, is_full, flushes}
 use Rattle.vx_rules.specs.Regroup.{ranked}
@@ -17,13 +17,15 @@ use Rattle.vx_plan.specs.FlatNode.{segment, inlined}
 use Rattle.vx_plan.specs.DictNode.{is_dictionary}
 use Rattle.vx_tasks.specs.Task.{Kind, Free, TakeEnd}
 use Rattle.vx_tasks.specs.Task.Prompt.{Call}
+use Rattle.vx_tasks.specs.Runs.{first_batch}
+use Rattle.vx_named_tasks.specs.Names.{Outset, root_outset}
 use Rattle.vx_machine_turns.specs.Forms.{Form, Forms, flat_form, chunked_form, grouped_form, compressed_form, dict_form, zoned_form, no_struct_form, struct_form, list_form, no_forms, form_then}
 use Rattle.vx_machine_turns.specs.Grouped.{block_grouper}
 use Rattle.vx_machine_turns.specs.Collected.{collect_rest}
 use Rattle.vx_zone_spec.specs.ZoneTable.{Filled, kept_columns}
 use Rattle.vx_machine_turns.specs.Locals.{ZonedNode, Local}
 use Rattle.vx_machine_turns.specs.Acts.{Seed, Act}
-use Rattle.vx_machine_turns.specs.Source.{source_seed}
+use Rattle.vx_machine_turns.specs.Source.{seed_at, source_seed}
 use Rattle.vx_machine_turns.specs.Fuels.{Fuel, less}
 use Rattle.vx_machine_steps.specs.Tree.{Tree, Leaf, Work}
 use Rattle.vx_machine_promises.specs.Write.{Answer, unasked, came, over}
@@ -40,7 +42,7 @@ use Rattle.vx_machine_view.specs.Machine.{Phase, reading, giving, closing, finis
 use Rattle.vx_machine_view.specs.Shows.{NoneHeld, Stage, waits_first, waits_end, appends, splits, gathers_all, hands, hands_lists, shuts, joins_columns, regroups_rows, regroups_chunks, collects, presses, pressed, lets_out, asks_first, probes, falls_back, cuts, last_cuts, passes_on, passed, records_zones, closes_zones, joins_data, joins_zones, Done, Shows, types_of}
 use Rattle.vx_machine_view.specs.Whole.{form_of, root_depth}
 use Rattle.vx_machine_state.specs.Reserved.{next_reserved, mind_reserved, reserved_by}
-use Rattle.vx_machine_view.specs.Reserved.{StepsReserve, StartReserves, WholeReserves, FinishReserves}
+use Rattle.vx_machine_view.specs.Reserved.{StepsReserve, StartReservesAt, WholeReservesAt, FinishReserves}
 use Rattle.vx_machine_view.proofs.Words.{and_left, and_right}
 use Rattle.vx_machine_view.proofs.Feeding.{count_types}
 use Rattle.vx_machine_view.proofs.Joining.{Passed, stage_made}
@@ -494,8 +496,11 @@ steps_reserve s number next all d q j cs t w sh i = reserve s number next all d 
 
 -- ---- the whole machine
 
-pub start_reserves : StartReserves
-start_reserves f m = started_reserved f m _ _ [] false
+pub start_reserves_at : (stream eof : Eof) → StartReservesAt stream eof
+start_reserves_at stream eof f m = started_reserved f m _ _ [] false
+
+pub start_reserves : StartReservesAt first_batch root_eof
+start_reserves = start_reserves_at first_batch root_eof
 
 source_even : (a : Answer) (p : Phase) (root : Tasks) → reserved_by (source_step a p root).after.root + (source_step a p root).lowers ≡ reserved_by root + (source_step a p root).raises
 source_even unasked (reading e) root = refl
@@ -505,8 +510,8 @@ source_even a (giving e i) root = ap (λ z. z + 0) (give_reserved 0 i root)
 source_even a closing root = ap (λ z. z + 0) (shut_reserved root)
 source_even a finished root = refl
 
-pub whole_reserves : WholeReserves
-whole_reserves g number next all a f m t w sh i = by (in_cases w (cond (may_source m.phase m.root) (source_step a m.phase m.root ∷ []) []) (map (in_root m.phase) (steps g.setting all next m.root)) i)
+pub whole_reserves_at : (o : Outset) → WholeReservesAt o
+whole_reserves_at o g number next all a f m t w sh i = by (in_cases w (cond (may_source m.phase m.root) (source_step a m.phase m.root ∷ []) []) (map (in_root m.phase) (steps g.setting all next m.root)) i)
   where
     of_source : (b : Bool) → In w (cond b (source_step a m.phase m.root ∷ []) []) → reserved_by w.after.root + w.lowers ≡ reserved_by m.root + w.raises
     of_source true (inl e) = subst (λ (z : WholeStep). reserved_by z.after.root + z.lowers ≡ reserved_by m.root + z.raises) (sym e) (source_even a m.phase m.root)
@@ -515,11 +520,14 @@ whole_reserves g number next all a f m t w sh i = by (in_cases w (cond (may_sour
 
     of_root : (x : Step) × In x (steps g.setting all next m.root) × (w ≡ in_root m.phase x) → reserved_by w.after.root + w.lowers ≡ reserved_by m.root + w.raises
     of_root (x, y, e) = subst (λ (z : WholeStep). reserved_by z.after.root + z.lowers ≡ reserved_by m.root + z.raises) (sym e)
-        (reserve g.setting number next all (root_depth g) (source_seed (form_of g) g.mark) 0 m.root sh.kids x sh.root y)
+        (reserve g.setting number next all (root_depth g) (seed_at (form_of g) g.mark o) 0 m.root sh.kids x sh.root y)
 
     by : In w (cond (may_source m.phase m.root) (source_step a m.phase m.root ∷ []) []) ⊎ In w (map (in_root m.phase) (steps g.setting all next m.root)) → reserved_by w.after.root + w.lowers ≡ reserved_by m.root + w.raises
     by (inl x) = of_source (may_source m.phase m.root) x
     by (inr x) = of_root (from_map (in_root m.phase) w (steps g.setting all next m.root) x)
+
+pub whole_reserves : WholeReservesAt root_outset
+whole_reserves = whole_reserves_at root_outset
 
 -- ---- the end
 

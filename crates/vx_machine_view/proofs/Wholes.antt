@@ -3,12 +3,14 @@ use Rattle.std.proofs.Common.{◌≡◌, ◌+◌, ◌<◌, ◌||◌, ◌∷◌, 
 use Rattle.std.proofs.lemmas.Bool.Decides.{nat_tests}
 use Rattle.vx_model.specs.ChunkData.{ChunkData}
 use Rattle.vx_path.specs.Path.{Eof, eof_path, next, root_eof}
+use Rattle.vx_named_tasks.specs.Names.{Outset, root_outset}
 use Rattle.vx_machine_state.specs.Images.{Careful}
 use Rattle.vx_tasks.specs.Task.{Free, Put, Batch, End, Close}
 use Rattle.vx_tasks.specs.Run.{nth}
+use Rattle.vx_tasks.specs.Runs.{first_batch}
 use Rattle.vx_plan.specs.PlanData.{Item}
 use Rattle.vx_machine_turns.specs.Acts.{Seed, Act, does, put_item, close_queues, passes, born, shape_in}
-use Rattle.vx_machine_turns.specs.Source.{source_acts, source_seed, source_kept}
+use Rattle.vx_machine_turns.specs.Source.{source_acts, seed_at, kept_at}
 use Rattle.vx_machine_turns.specs.Turns.{firsts}
 use Rattle.vx_machine_turns.specs.Fuels.{fuel_of}
 use Rattle.vx_machine_turns.proofs.Fueled.{fuel_is_enough}
@@ -27,7 +29,7 @@ use Rattle.vx_machine_state.specs.Typed.{Typed}
 use Rattle.vx_machine_view.specs.Shows.{Shows, types_of}
 use Rattle.vx_machine_view.specs.Steps.{AllPairs, Steady, SameStep}
 use Rattle.vx_machine_view.specs.Machine.{Phase, reading, giving, closing, finished, Machine, may_source, WholeStep, source_did, read_batch, source_step, in_root, whole_steps, phase_ids}
-use Rattle.vx_machine_view.specs.Whole.{form_of, phase_acts, PhaseTyped, PhaseShape, source_at, root_depth, ShowsMachine, StartShows, Asks, SameWhole, StepShows, ReadyShows}
+use Rattle.vx_machine_view.specs.Whole.{form_of, phase_acts, PhaseTyped, PhaseShape, source_from, source_at, root_depth, ShowsMachineAt, outset_from, StartShowsAt, Asks, SameWholeAt, StepShowsAt, ReadyShowsAt}
 use Rattle.vx_machine_view.proofs.Words.{true_false, no_cons, pairs_append, pairs_map, pairs_length, pairs_nth, same_some, shape_last, shape_kept}
 use Rattle.vx_machine_view.proofs.Feeding.{opened_none, Leaves, feed_none, feed_types, count_types, room_is, given, shut_shows}
 use Rattle.vx_machine_view.proofs.Beginning.{task_begun}
@@ -49,18 +51,22 @@ has_asked finished = false
 
 -- ---- the start
 
-pub start_shows : StartShows
-start_shows g number f n = record {
+pub start_shows_at : (stream eof : Eof) → StartShowsAt stream eof
+start_shows_at stream eof g number f n = record {
   past = [];
-  kids = sprout (root_depth g) quiet 0 (firsts (source_seed (form_of g) g.mark));
+  kids = sprout (root_depth g) quiet 0 (firsts (seed_at (form_of g) g.mark (outset_from stream eof)));
   tree_is = refl;
-  root = task_begun g.setting number (λ u. fuel_of (form_of g)) (source_seed (form_of g) g.mark) 0 (form_of g) g.mark (1 ∷ []) root_eof [] false refl tt (forms_are_suited g.way g.type)
-      (start_faults_agree g.setting g.way g.type g.mark ∙ n) (fuel_is_enough g.way g.type).1;
+  root = task_begun g.setting number (λ u. fuel_of (form_of g)) (seed_at (form_of g) g.mark (outset_from stream eof)) 0 (form_of g) g.mark (1 ∷ []) eof [] false refl tt
+      (forms_are_suited g.way g.type) (start_faults_agree g.setting g.way g.type g.mark ∙ n) (fuel_is_enough g.way g.type).1;
   one = ap (λ z. z ∷ []) (fuel_is_enough g.way g.type).0;
   typed = tt;
   shape = refl;
   held = refl;
 }
+
+-- of a whole write
+pub start_shows : StartShowsAt first_batch root_eof
+start_shows = start_shows_at first_batch root_eof
 
 -- ---- the source's own step
 
@@ -68,9 +74,9 @@ held_last : (h : List (List ℕ)) (past : List Act) (a : Act) → held_after h (
 held_last h [] a = refl
 held_last h (b ∷ past) a = held_last b.holds past a
 
-module _ (g : Write) (number : List ℕ → ℕ) (next_number : ℕ) (all : List (List ℕ)) (past : List Act) (kids : Tree) where
+module _ (g : Write) (o : Outset) (number : List ℕ → ℕ) (next_number : ℕ) (all : List (List ℕ)) (past : List Act) (kids : Tree) where
   abbrev seed : Seed
-  seed = source_seed (form_of g) g.mark
+  seed = seed_at (form_of g) g.mark o
 
   -- what the source does with what it has left
   abbrev moved : Act → List Act → TreeMove
@@ -79,7 +85,7 @@ module _ (g : Write) (number : List ℕ → ℕ) (next_number : ℕ) (all : List
     act = a;
     before = born past + length (firsts seed);
     room = root_depth g;
-    after = Work (source_at g (past ++ (a ∷ [])) todo) (feed (root_depth g) a 0 kids) Leaf;
+    after = Work (source_from g o (past ++ (a ∷ [])) todo) (feed (root_depth g) a 0 kids) Leaf;
   }
 
   abbrev batch_act : Eof → Act
@@ -97,7 +103,7 @@ module _ (g : Write) (number : List ℕ → ℕ) (next_number : ℕ) (all : List
   -- the machine after the source's act
   source_then : (f : Future) (p : Phase) (cs : Tasks) (a : Act) → Shows g.setting number (root_depth g) seed 0 cs (feed (root_depth g) a 0 kids)
       → types_of (feed (root_depth g) a 0 kids) ≡ g.type ∷ [] → PhaseTyped g.type p → PhaseShape (past ++ (a ∷ [])) p → a.holds ≡ phase_ids p
-      → ShowsMachine g number (record { phase = p; root = cs }) f (Work (source_at g (past ++ (a ∷ [])) (phase_acts p f)) (feed (root_depth g) a 0 kids) Leaf)
+      → ShowsMachineAt g o number (record { phase = p; root = cs }) f (Work (source_from g o (past ++ (a ∷ [])) (phase_acts p f)) (feed (root_depth g) a 0 kids) Leaf)
   source_then f p cs a w one ty sh h = record {
     past = past ++ (a ∷ []);
     kids = feed (root_depth g) a 0 kids;
@@ -106,12 +112,12 @@ module _ (g : Write) (number : List ℕ → ℕ) (next_number : ℕ) (all : List
     one = one;
     typed = ty;
     shape = sh;
-    held = held_last source_kept past a ∙ h;
+    held = held_last (kept_at o) past a ∙ h;
   }
 
   -- a batch of the type
   batch_step : (e : Eof) (b : ChunkData) (f : Future) (cs : Tasks) → Shows g.setting number (root_depth g) seed 0 cs kids → types_of kids ≡ g.type ∷ [] → shape_in past ≡ None → Typed g.type b
-      → SameWhole g number next_number f (read_batch (came b) e cs)
+      → SameWholeAt g o number next_number f (read_batch (came b) e cs)
       (moved (batch_act e) (phase_acts (giving (next e) (eof_path e, b)) f))
   batch_step e b f cs w one un ty =
       let a : Act = batch_act e in
@@ -130,7 +136,7 @@ module _ (g : Write) (number : List ℕ → ℕ) (next_number : ℕ) (all : List
 
   -- the end
   end_step : (e : Eof) (f : Future) (cs : Tasks) → Shows g.setting number (root_depth g) seed 0 cs kids → types_of kids ≡ g.type ∷ [] → shape_in past ≡ None
-      → SameWhole g number next_number f (source_did (Free End) closing cs) (moved end_act (phase_acts closing f))
+      → SameWholeAt g o number next_number f (source_did (Free End) closing cs) (moved end_act (phase_acts closing f))
   end_step e f cs w one un =
       let a : Act = end_act in
       let none : Leaves a 0 = record { gives = λ i k. refl; shuts = λ i k. refl; starts = refl } in record {
@@ -147,11 +153,11 @@ module _ (g : Write) (number : List ℕ → ℕ) (next_number : ℕ) (all : List
       }
 
   -- a batch of another type
-  misfit_step : (e : Eof) (f : Future) (cs : Tasks) → SameWhole g number next_number f (read_batch unasked e cs) (moved misfit_act [])
+  misfit_step : (e : Eof) (f : Future) (cs : Tasks) → SameWholeAt g o number next_number f (read_batch unasked e cs) (moved misfit_act [])
   misfit_step e f cs = record { name = refl; kind = refl; refusal = refl; misfit = refl; numbers = refl; indices = sym (opened_none (root_depth g)); wrote = refl; raises = refl; lowers = refl; after = λ n y. absurd (true_false n) }
 
   put_step : (e : Eof) (i : Item) (f : Future) (cs : Tasks) → Shows g.setting number (root_depth g) seed 0 cs kids → types_of kids ≡ g.type ∷ [] → shape_in past ≡ None → Typed g.type i.1
-      → SameWhole g number next_number f (source_did (Put 0) (reading e) (give 0 i cs)) (moved (record (put_item 0 i) { holds = eof_path e ∷ [] }) (phase_acts (reading e) f))
+      → SameWholeAt g o number next_number f (source_did (Put 0) (reading e) (give 0 i cs)) (moved (record (put_item 0 i) { holds = eof_path e ∷ [] }) (phase_acts (reading e) f))
   put_step e i f cs w one un ty =
       let a : Act = record (put_item 0 i) { holds = eof_path e ∷ [] } in record {
         name = refl;
@@ -168,7 +174,7 @@ module _ (g : Write) (number : List ℕ → ℕ) (next_number : ℕ) (all : List
       }
 
   close_step : (f : Future) (cs : Tasks) → Shows g.setting number (root_depth g) seed 0 cs kids → types_of kids ≡ g.type ∷ [] → shape_in past ≡ Some passes
-      → SameWhole g number next_number f (source_did (Free Close) finished (shut_all cs)) (moved (close_queues (0 ∷ [])) (phase_acts finished f))
+      → SameWholeAt g o number next_number f (source_did (Free Close) finished (shut_all cs)) (moved (close_queues (0 ∷ [])) (phase_acts finished f))
   close_step f cs w one sh =
       let a : Act = close_queues (0 ∷ []) in
       let c : count cs ≡ 1 = count_types g.setting number (root_depth g) seed 0 cs kids w ∙ ap length one in record {
@@ -191,9 +197,9 @@ module _ (g : Write) (number : List ℕ → ℕ) (next_number : ℕ) (all : List
 
   -- ---- a step of the root or of one below it
 
-  root_step : (p : Phase) (f : Future) (cs : Tasks) → types_of kids ≡ g.type ∷ [] → PhaseTyped g.type p → PhaseShape past p → holding (source_at g past (phase_acts p f)) ≡ phase_ids p
+  root_step : (p : Phase) (f : Future) (cs : Tasks) → types_of kids ≡ g.type ∷ [] → PhaseTyped g.type p → PhaseShape past p → holding (source_from g o past (phase_acts p f)) ≡ phase_ids p
       → (w : Step) (m : TreeMove) → SameStep g.setting number next_number (root_depth g) seed 0 cs kids w m
-      → SameWhole g number next_number f (in_root p w) (abstract.in_kids (source_at g past (phase_acts p f)) Leaf m)
+      → SameWholeAt g o number next_number f (in_root p w) (abstract.in_kids (source_from g o past (phase_acts p f)) Leaf m)
   root_step p f cs one ty sh h w m x = record {
     name = x.name;
     kind = x.kind;
@@ -217,40 +223,40 @@ module _ (g : Write) (number : List ℕ → ℕ) (next_number : ℕ) (all : List
   }
 
   root_steps : (p : Phase) (f : Future) (cs : Tasks) → Careful g.setting → Shows g.setting number (root_depth g) seed 0 cs kids → JoinsFree g.setting kids
-      → types_of kids ≡ g.type ∷ [] → PhaseTyped g.type p → PhaseShape past p → holding (source_at g past (phase_acts p f)) ≡ phase_ids p
-      → AllPairs (SameWhole g number next_number f) (map (in_root p) (steps g.setting all next_number cs))
-      (map (abstract.in_kids (source_at g past (phase_acts p f)) Leaf) (tree_moves g.setting all (root_depth g) kids))
+      → types_of kids ≡ g.type ∷ [] → PhaseTyped g.type p → PhaseShape past p → holding (source_from g o past (phase_acts p f)) ≡ phase_ids p
+      → AllPairs (SameWholeAt g o number next_number f) (map (in_root p) (steps g.setting all next_number cs))
+      (map (abstract.in_kids (source_from g o past (phase_acts p f)) Leaf) (tree_moves g.setting all (root_depth g) kids))
   root_steps p f cs law w jf one ty sh h =
-      pairs_map (SameStep g.setting number next_number (root_depth g) seed 0 cs kids) (SameWhole g number next_number f) (in_root p) (abstract.in_kids (source_at g past (phase_acts p f)) Leaf)
+      pairs_map (SameStep g.setting number next_number (root_depth g) seed 0 cs kids) (SameWholeAt g o number next_number f) (in_root p) (abstract.in_kids (source_from g o past (phase_acts p f)) Leaf)
       (root_step p f cs one ty sh h) (steps g.setting all next_number cs) (tree_moves g.setting all (root_depth g) kids)
       (steps_show g.setting number next_number all (root_depth g) seed 0 cs kids law w jf)
 
   -- ---- all of them
 
   abbrev state : Phase → Future → Tree
-  state p f = Work (source_at g past (phase_acts p f)) kids Leaf
+  state p f = Work (source_from g o past (phase_acts p f)) kids Leaf
 
   abbrev below : Phase → Future → List TreeMove
-  below p f = map (abstract.in_kids (source_at g past (phase_acts p f)) Leaf) (tree_moves g.setting all (root_depth g) kids)
+  below p f = map (abstract.in_kids (source_from g o past (phase_acts p f)) Leaf) (tree_moves g.setting all (root_depth g) kids)
 
   -- where the source isn't asked: its own step is this one, or none
   all_steps : (p : Phase) (f : Future) (cs : Tasks) (a : Answer) → Careful g.setting → Shows g.setting number (root_depth g) seed 0 cs kids → JoinsFree g.setting kids
-      → types_of kids ≡ g.type ∷ [] → PhaseTyped g.type p → PhaseShape past p → holding (source_at g past (phase_acts p f)) ≡ phase_ids p
-      → AllPairs (SameWhole g number next_number f) (cond (may_source p cs) (source_step a p cs ∷ []) [])
-      (move_own all (depth g) (source_at g past (phase_acts p f)) kids Leaf (due g.setting (source_at g past (phase_acts p f))))
-      → AllPairs (SameWhole g number next_number f) (whole_steps g.setting all next_number a (record { phase = p; root = cs })) (tree_moves g.setting all (depth g) (state p f))
+      → types_of kids ≡ g.type ∷ [] → PhaseTyped g.type p → PhaseShape past p → holding (source_from g o past (phase_acts p f)) ≡ phase_ids p
+      → AllPairs (SameWholeAt g o number next_number f) (cond (may_source p cs) (source_step a p cs ∷ []) [])
+      (move_own all (depth g) (source_from g o past (phase_acts p f)) kids Leaf (due g.setting (source_from g o past (phase_acts p f))))
+      → AllPairs (SameWholeAt g o number next_number f) (whole_steps g.setting all next_number a (record { phase = p; root = cs })) (tree_moves g.setting all (depth g) (state p f))
   all_steps p f cs a law w jf one ty sh h own =
-      subst (AllPairs (SameWhole g number next_number f) (whole_steps g.setting all next_number a (record { phase = p; root = cs })))
-      (sym (append-nil (move_own all (depth g) (source_at g past (phase_acts p f)) kids Leaf (due g.setting (source_at g past (phase_acts p f))) ++ below p f)))
-      (pairs_append (SameWhole g number next_number f) (cond (may_source p cs) (source_step a p cs ∷ []) []) (map (in_root p) (steps g.setting all next_number cs))
-      (move_own all (depth g) (source_at g past (phase_acts p f)) kids Leaf (due g.setting (source_at g past (phase_acts p f)))) (below p f)
+      subst (AllPairs (SameWholeAt g o number next_number f) (whole_steps g.setting all next_number a (record { phase = p; root = cs })))
+      (sym (append-nil (move_own all (depth g) (source_from g o past (phase_acts p f)) kids Leaf (due g.setting (source_from g o past (phase_acts p f))) ++ below p f)))
+      (pairs_append (SameWholeAt g o number next_number f) (cond (may_source p cs) (source_step a p cs ∷ []) []) (map (in_root p) (steps g.setting all next_number cs))
+      (move_own all (depth g) (source_from g o past (phase_acts p f)) kids Leaf (due g.setting (source_from g o past (phase_acts p f)))) (below p f)
       own (root_steps p f cs law w jf one ty sh h))
 
   unasked_own : (p : Phase) (f : Future) (cs : Tasks) (a : Answer) → has_asked p ≡ false → Shows g.setting number (root_depth g) seed 0 cs kids → types_of kids ≡ g.type ∷ [] → PhaseTyped g.type p
-      → PhaseShape past p → AllPairs (SameWhole g number next_number f) (cond (may_source p cs) (source_step a p cs ∷ []) [])
-      (move_own all (depth g) (source_at g past (phase_acts p f)) kids Leaf (due g.setting (source_at g past (phase_acts p f))))
+      → PhaseShape past p → AllPairs (SameWholeAt g o number next_number f) (cond (may_source p cs) (source_step a p cs ∷ []) [])
+      (move_own all (depth g) (source_from g o past (phase_acts p f)) kids Leaf (due g.setting (source_from g o past (phase_acts p f))))
   unasked_own (reading e) f cs a k w one ty sh = absurd (true_false k)
-  unasked_own (giving e i) f cs a k w one ty sh = one_pair (SameWhole g number next_number f) (source_did (Put 0) (reading e) (give 0 i cs))
+  unasked_own (giving e i) f cs a k w one ty sh = one_pair (SameWholeAt g o number next_number f) (source_did (Put 0) (reading e) (give 0 i cs))
       (moved (record (put_item 0 i) { holds = eof_path e ∷ [] }) (phase_acts (reading e) f)) (has_room 0 cs) (not (is_full seed 0 kids 0))
       (room_is g.setting number (root_depth g) seed 0 0 0 cs kids w (let l : length (types_of kids) ≡ 1 = ap length one in omega (arith, l)) refl)
       (λ z. put_step e i f cs w one sh ty)
@@ -259,101 +265,112 @@ module _ (g : Write) (number : List ℕ → ℕ) (next_number : ℕ) (all : List
 
   -- where it reads, it can
   reading_own : (e : Eof) (bs : List ChunkData) (fits : Bool)
-      → (m : TreeMove) × (move_own all (depth g) (source_at g past (source_acts e bs fits)) kids Leaf (due g.setting (source_at g past (source_acts e bs fits))) ≡ m ∷ [])
+      → (m : TreeMove) × (move_own all (depth g) (source_from g o past (source_acts e bs fits)) kids Leaf (due g.setting (source_from g o past (source_acts e bs fits))) ≡ m ∷ [])
   reading_own e [] true = (moved end_act (close_queues (0 ∷ []) ∷ []), refl)
   reading_own e [] false = (moved misfit_act [], refl)
   reading_own e (b ∷ bs) fits = (moved (batch_act e) (record (put_item 0 (eof_path e, b)) { holds = eof_path (next e) ∷ [] } ∷ source_acts (next e) bs fits), refl)
 
   -- so a further step is one of the root
   later_step : (e : Eof) (f : Future) (cs : Tasks) (k : ℕ) (w : WholeStep) → Careful g.setting → Shows g.setting number (root_depth g) seed 0 cs kids → JoinsFree g.setting kids
-      → types_of kids ≡ g.type ∷ [] → shape_in past ≡ None → holding (source_at g past (phase_acts (reading e) f)) ≡ phase_ids (reading e)
+      → types_of kids ≡ g.type ∷ [] → shape_in past ≡ None → holding (source_from g o past (phase_acts (reading e) f)) ≡ phase_ids (reading e)
       → nth (map (in_root (reading e)) (steps g.setting all next_number cs)) k ≡ Some w
-      → (v : TreeMove) × (nth (tree_moves g.setting all (depth g) (state (reading e) f)) (suc k) ≡ Some v) × SameWhole g number next_number f w v
+      → (v : TreeMove) × (nth (tree_moves g.setting all (depth g) (state (reading e) f)) (suc k) ≡ Some v) × SameWholeAt g o number next_number f w v
   later_step e f cs k w law sh jf one un h n =
-      let x : (v : TreeMove) × (nth (below (reading e) f) k ≡ Some v) × SameWhole g number next_number f w v =
-      pairs_nth (SameWhole g number next_number f) (map (in_root (reading e)) (steps g.setting all next_number cs)) (below (reading e) f) k w
+      let x : (v : TreeMove) × (nth (below (reading e) f) k ≡ Some v) × SameWholeAt g o number next_number f w v =
+      pairs_nth (SameWholeAt g o number next_number f) (map (in_root (reading e)) (steps g.setting all next_number cs)) (below (reading e) f) k w
       (root_steps (reading e) f cs law sh jf one tt un h) n in
-      let o : (m : TreeMove) × (move_own all (depth g) (source_at g past (source_acts e f.later f.fits)) kids Leaf (due g.setting (source_at g past (source_acts e f.later f.fits))) ≡ m ∷ []) =
+      let only : (m : TreeMove) × (move_own all (depth g) (source_from g o past (source_acts e f.later f.fits)) kids Leaf (due g.setting (source_from g o past (source_acts e f.later f.fits))) ≡ m ∷ []) =
       reading_own e f.later f.fits in (
         x.0,
-        ap (λ z. nth ((z ++ below (reading e) f) ++ []) (suc k)) o.1 ∙ ap (λ z. nth z k) (append-nil (below (reading e) f)) ∙ x.1,
+        ap (λ z. nth ((z ++ below (reading e) f) ++ []) (suc k)) only.1 ∙ ap (λ z. nth z k) (append-nil (below (reading e) f)) ∙ x.1,
         x.2,
       )
 
   first_came : (e : Eof) (b : ChunkData) (f : Future) (cs : Tasks) (w : WholeStep) → Shows g.setting number (root_depth g) seed 0 cs kids → types_of kids ≡ g.type ∷ [] → shape_in past ≡ None → Typed g.type b
       → read_batch (came b) e cs ≡ w
-      → (v : TreeMove) × (nth (tree_moves g.setting all (depth g) (state (reading e) (before (came b) f))) 0 ≡ Some v) × SameWhole g number next_number f w v
+      → (v : TreeMove) × (nth (tree_moves g.setting all (depth g) (state (reading e) (before (came b) f))) 0 ≡ Some v) × SameWholeAt g o number next_number f w v
   first_came e b f cs w sh one un ty q = (
     moved (batch_act e) (phase_acts (giving (next e) (eof_path e, b)) f),
     refl,
-    subst (λ z. SameWhole g number next_number f z (moved (batch_act e) (phase_acts (giving (next e) (eof_path e, b)) f))) q (batch_step e b f cs sh one un ty),
+    subst (λ z. SameWholeAt g o number next_number f z (moved (batch_act e) (phase_acts (giving (next e) (eof_path e, b)) f))) q (batch_step e b f cs sh one un ty),
   )
 
   first_over : (e : Eof) (bs : List ChunkData) (fits : Bool) (f : Future) (cs : Tasks) (w : WholeStep) → bs ≡ [] → fits ≡ true → Shows g.setting number (root_depth g) seed 0 cs kids → types_of kids ≡ g.type ∷ []
       → shape_in past ≡ None → source_did (Free End) closing cs ≡ w
-      → (v : TreeMove) × (nth (tree_moves g.setting all (depth g) (Work (source_at g past (source_acts e bs fits)) kids Leaf)) 0 ≡ Some v) × SameWhole g number next_number f w v
-  first_over e [] true f cs w x y sh one un q = (moved end_act (phase_acts closing f), refl, subst (λ z. SameWhole g number next_number f z (moved end_act (phase_acts closing f))) q (end_step e f cs sh one un))
+      → (v : TreeMove) × (nth (tree_moves g.setting all (depth g) (Work (source_from g o past (source_acts e bs fits)) kids Leaf)) 0 ≡ Some v) × SameWholeAt g o number next_number f w v
+  first_over e [] true f cs w x y sh one un q = (moved end_act (phase_acts closing f), refl, subst (λ z. SameWholeAt g o number next_number f z (moved end_act (phase_acts closing f))) q (end_step e f cs sh one un))
   first_over e [] false f cs w x y sh one un q = absurd (true_false (sym y))
   first_over e (b ∷ bs) fits f cs w x y sh one un q = absurd (no_cons b bs x)
 
   first_misfit : (e : Eof) (bs : List ChunkData) (fits : Bool) (f : Future) (cs : Tasks) (w : WholeStep) → bs ≡ [] → fits ≡ false → read_batch unasked e cs ≡ w
-      → (v : TreeMove) × (nth (tree_moves g.setting all (depth g) (Work (source_at g past (source_acts e bs fits)) kids Leaf)) 0 ≡ Some v) × SameWhole g number next_number f w v
-  first_misfit e [] false f cs w x y q = (moved misfit_act [], refl, subst (λ z. SameWhole g number next_number f z (moved misfit_act [])) q (misfit_step e f cs))
+      → (v : TreeMove) × (nth (tree_moves g.setting all (depth g) (Work (source_from g o past (source_acts e bs fits)) kids Leaf)) 0 ≡ Some v) × SameWholeAt g o number next_number f w v
+  first_misfit e [] false f cs w x y q = (moved misfit_act [], refl, subst (λ z. SameWholeAt g o number next_number f z (moved misfit_act [])) q (misfit_step e f cs))
   first_misfit e [] true f cs w x y q = absurd (true_false y)
   first_misfit e (b ∷ bs) fits f cs w x y q = absurd (no_cons b bs x)
 
   -- the step at each place
   step_at : (p : Phase) (cs : Tasks) (heard : Bool) (a : Answer) (f : Future) (k : ℕ) (w : WholeStep) → Careful g.setting → JoinsFree g.setting kids → Open (heard_by heard a) f
-      → Shows g.setting number (root_depth g) seed 0 cs kids → types_of kids ≡ g.type ∷ [] → PhaseTyped g.type p → PhaseShape past p → holding (source_at g past (phase_acts p (before a f))) ≡ phase_ids p
+      → Shows g.setting number (root_depth g) seed 0 cs kids → types_of kids ≡ g.type ∷ [] → PhaseTyped g.type p → PhaseShape past p → holding (source_from g o past (phase_acts p (before a f))) ≡ phase_ids p
       → nth (whole_steps g.setting all next_number a (record { phase = p; root = cs })) k ≡ Some w → Asks g.type f p k a
-      → (v : TreeMove) × (nth (tree_moves g.setting all (depth g) (state p (before a f))) k ≡ Some v) × SameWhole g number next_number f w v
-  step_at (reading e) cs heard unasked f zero w law jf o sh one ty un h n q = first_misfit e f.later f.fits f cs w q.0 q.1 (same_some _ _ n)
-  step_at (reading e) cs heard (came b) f zero w law jf o sh one ty un h n q = first_came e b f cs w sh one un q (same_some _ _ n)
-  step_at (reading e) cs heard over f zero w law jf o sh one ty un h n q = first_over e f.later f.fits f cs w (o refl).0 (o refl).1 sh one un (same_some _ _ n)
-  step_at (reading e) cs heard unasked f (suc k) w law jf o sh one ty un h n q = later_step e f cs k w law sh jf one un h n
-  step_at (reading e) cs heard (came b) f (suc k) w law jf o sh one ty un h n q = absurd (asked q)
-  step_at (reading e) cs heard over f (suc k) w law jf o sh one ty un h n q = absurd (told q)
-  step_at (giving e i) cs heard unasked f k w law jf o sh one ty un h n q =
-      pairs_nth (SameWhole g number next_number f) (whole_steps g.setting all next_number unasked (record { phase = giving e i; root = cs })) (tree_moves g.setting all (depth g) (state (giving e i) f)) k w
+      → (v : TreeMove) × (nth (tree_moves g.setting all (depth g) (state p (before a f))) k ≡ Some v) × SameWholeAt g o number next_number f w v
+  step_at (reading e) cs heard unasked f zero w law jf may sh one ty un h n q = first_misfit e f.later f.fits f cs w q.0 q.1 (same_some _ _ n)
+  step_at (reading e) cs heard (came b) f zero w law jf may sh one ty un h n q = first_came e b f cs w sh one un q (same_some _ _ n)
+  step_at (reading e) cs heard over f zero w law jf may sh one ty un h n q = first_over e f.later f.fits f cs w (may refl).0 (may refl).1 sh one un (same_some _ _ n)
+  step_at (reading e) cs heard unasked f (suc k) w law jf may sh one ty un h n q = later_step e f cs k w law sh jf one un h n
+  step_at (reading e) cs heard (came b) f (suc k) w law jf may sh one ty un h n q = absurd (asked q)
+  step_at (reading e) cs heard over f (suc k) w law jf may sh one ty un h n q = absurd (told q)
+  step_at (giving e i) cs heard unasked f k w law jf may sh one ty un h n q =
+      pairs_nth (SameWholeAt g o number next_number f) (whole_steps g.setting all next_number unasked (record { phase = giving e i; root = cs })) (tree_moves g.setting all (depth g) (state (giving e i) f)) k w
       (all_steps (giving e i) f cs unasked law sh jf one ty un h (unasked_own (giving e i) f cs unasked refl sh one ty un)) n
-  step_at (giving e i) cs heard (came b) f k w law jf o sh one ty un h n q = absurd (asked q)
-  step_at (giving e i) cs heard over f k w law jf o sh one ty un h n q = absurd (told q)
-  step_at closing cs heard unasked f k w law jf o sh one ty un h n q =
-      pairs_nth (SameWhole g number next_number f) (whole_steps g.setting all next_number unasked (record { phase = closing; root = cs })) (tree_moves g.setting all (depth g) (state closing f)) k w
+  step_at (giving e i) cs heard (came b) f k w law jf may sh one ty un h n q = absurd (asked q)
+  step_at (giving e i) cs heard over f k w law jf may sh one ty un h n q = absurd (told q)
+  step_at closing cs heard unasked f k w law jf may sh one ty un h n q =
+      pairs_nth (SameWholeAt g o number next_number f) (whole_steps g.setting all next_number unasked (record { phase = closing; root = cs })) (tree_moves g.setting all (depth g) (state closing f)) k w
       (all_steps closing f cs unasked law sh jf one ty un h (unasked_own closing f cs unasked refl sh one ty un)) n
-  step_at closing cs heard (came b) f k w law jf o sh one ty un h n q = absurd (asked q)
-  step_at closing cs heard over f k w law jf o sh one ty un h n q = absurd (told q)
-  step_at finished cs heard unasked f k w law jf o sh one ty un h n q =
-      pairs_nth (SameWhole g number next_number f) (whole_steps g.setting all next_number unasked (record { phase = finished; root = cs })) (tree_moves g.setting all (depth g) (state finished f)) k w
+  step_at closing cs heard (came b) f k w law jf may sh one ty un h n q = absurd (asked q)
+  step_at closing cs heard over f k w law jf may sh one ty un h n q = absurd (told q)
+  step_at finished cs heard unasked f k w law jf may sh one ty un h n q =
+      pairs_nth (SameWholeAt g o number next_number f) (whole_steps g.setting all next_number unasked (record { phase = finished; root = cs })) (tree_moves g.setting all (depth g) (state finished f)) k w
       (all_steps finished f cs unasked law sh jf one ty un h (unasked_own finished f cs unasked refl sh one ty un)) n
-  step_at finished cs heard (came b) f k w law jf o sh one ty un h n q = absurd (asked q)
-  step_at finished cs heard over f k w law jf o sh one ty un h n q = absurd (told q)
+  step_at finished cs heard (came b) f k w law jf may sh one ty un h n q = absurd (asked q)
+  step_at finished cs heard over f k w law jf may sh one ty un h n q = absurd (told q)
 
   -- as many
   as_many : (p : Phase) (f : Future) (cs : Tasks) (a : Answer) → Careful g.setting → Shows g.setting number (root_depth g) seed 0 cs kids → JoinsFree g.setting kids
-      → types_of kids ≡ g.type ∷ [] → PhaseTyped g.type p → PhaseShape past p → holding (source_at g past (phase_acts p f)) ≡ phase_ids p
+      → types_of kids ≡ g.type ∷ [] → PhaseTyped g.type p → PhaseShape past p → holding (source_from g o past (phase_acts p f)) ≡ phase_ids p
       → length (whole_steps g.setting all next_number a (record { phase = p; root = cs })) ≡ length (tree_moves g.setting all (depth g) (state p f))
   as_many (reading e) f cs a law w jf one ty sh h =
-      let o : (m : TreeMove) × (move_own all (depth g) (source_at g past (source_acts e f.later f.fits)) kids Leaf (due g.setting (source_at g past (source_acts e f.later f.fits))) ≡ m ∷ []) =
+      let only : (m : TreeMove) × (move_own all (depth g) (source_from g o past (source_acts e f.later f.fits)) kids Leaf (due g.setting (source_from g o past (source_acts e f.later f.fits))) ≡ m ∷ []) =
       reading_own e f.later f.fits in
-      ap suc (pairs_length (SameWhole g number next_number f) (map (in_root (reading e)) (steps g.setting all next_number cs)) (below (reading e) f) (root_steps (reading e) f cs law w jf one tt sh h))
-      ∙ sym (ap (λ z. length ((z ++ below (reading e) f) ++ [])) o.1 ∙ ap (λ z. suc (length z)) (append-nil (below (reading e) f)))
-  as_many (giving e i) f cs a law w jf one ty sh h = pairs_length (SameWhole g number next_number f) (whole_steps g.setting all next_number a (record { phase = giving e i; root = cs }))
+      ap suc (pairs_length (SameWholeAt g o number next_number f) (map (in_root (reading e)) (steps g.setting all next_number cs)) (below (reading e) f) (root_steps (reading e) f cs law w jf one tt sh h))
+      ∙ sym (ap (λ z. length ((z ++ below (reading e) f) ++ [])) only.1 ∙ ap (λ z. suc (length z)) (append-nil (below (reading e) f)))
+  as_many (giving e i) f cs a law w jf one ty sh h = pairs_length (SameWholeAt g o number next_number f) (whole_steps g.setting all next_number a (record { phase = giving e i; root = cs }))
       (tree_moves g.setting all (depth g) (state (giving e i) f)) (all_steps (giving e i) f cs a law w jf one ty sh h (unasked_own (giving e i) f cs a refl w one ty sh))
-  as_many closing f cs a law w jf one ty sh h = pairs_length (SameWhole g number next_number f) (whole_steps g.setting all next_number a (record { phase = closing; root = cs }))
+  as_many closing f cs a law w jf one ty sh h = pairs_length (SameWholeAt g o number next_number f) (whole_steps g.setting all next_number a (record { phase = closing; root = cs }))
       (tree_moves g.setting all (depth g) (state closing f)) (all_steps closing f cs a law w jf one ty sh h (unasked_own closing f cs a refl w one ty sh))
-  as_many finished f cs a law w jf one ty sh h = pairs_length (SameWhole g number next_number f) (whole_steps g.setting all next_number a (record { phase = finished; root = cs }))
+  as_many finished f cs a law w jf one ty sh h = pairs_length (SameWholeAt g o number next_number f) (whole_steps g.setting all next_number a (record { phase = finished; root = cs }))
       (tree_moves g.setting all (depth g) (state finished f)) (all_steps finished f cs a law w jf one ty sh h (unasked_own finished f cs a refl w one ty sh))
 
-pub free_below : (g : Write) (m : Machine) (f : Future) (past : List Act) (kids t : Tree) → t ≡ Work (source_at g past (phase_acts m.phase f)) kids Leaf → Stands g.setting (depth g) t → JoinsFree g.setting kids
-free_below g m f past kids t e st = (subst (JoinsFree g.setting) e (joins_are_free g.setting (depth g) t st)).1
+pub free_below_at : (g : Write) (o : Outset) (m : Machine) (f : Future) (past : List Act) (kids t : Tree) → t ≡ Work (source_from g o past (phase_acts m.phase f)) kids Leaf → Stands g.setting (depth g) t → JoinsFree g.setting kids
+free_below_at g o m f past kids t e st = (subst (JoinsFree g.setting) e (joins_are_free g.setting (depth g) t st)).1
 
-pub step_shows : StepShows
-step_shows g number next all heard a f m t k w law st o sh n q =
-    subst (λ z. (v : TreeMove) × (nth (tree_moves g.setting all (depth g) z) k ≡ Some v) × SameWhole g number next f w v) (sym sh.tree_is)
-    (step_at g number next all sh.past sh.kids m.phase m.root heard a f k w law (free_below g m (before a f) sh.past sh.kids t sh.tree_is st) o sh.root sh.one sh.typed sh.shape sh.held n q)
+pub step_shows_at : (o : Outset) → StepShowsAt o
+step_shows_at o g number next all heard a f m t k w law st may sh n q =
+    subst (λ z. (v : TreeMove) × (nth (tree_moves g.setting all (depth g) z) k ≡ Some v) × SameWholeAt g o number next f w v) (sym sh.tree_is)
+    (step_at g o number next all sh.past sh.kids m.phase m.root heard a f k w law (free_below_at g o m (before a f) sh.past sh.kids t sh.tree_is st) may sh.root sh.one sh.typed sh.shape sh.held n q)
 
-pub ready_shows : ReadyShows
-ready_shows g number next all a f m t law st sh =
-    as_many g number next all sh.past sh.kids m.phase f m.root a law sh.root (free_below g m f sh.past sh.kids t sh.tree_is st) sh.one sh.typed sh.shape sh.held
+pub ready_shows_at : (o : Outset) → ReadyShowsAt o
+ready_shows_at o g number next all a f m t law st sh =
+    as_many g o number next all sh.past sh.kids m.phase f m.root a law sh.root (free_below_at g o m f sh.past sh.kids t sh.tree_is st) sh.one sh.typed sh.shape sh.held
     ∙ ap (λ z. length (tree_moves g.setting all (depth g) z)) (sym sh.tree_is)
+
+-- in a whole write
+
+pub free_below : (g : Write) (m : Machine) (f : Future) (past : List Act) (kids t : Tree) → t ≡ Work (source_at g past (phase_acts m.phase f)) kids Leaf → Stands g.setting (depth g) t → JoinsFree g.setting kids
+free_below g m f past kids t e st = free_below_at g root_outset m f past kids t e st
+
+pub step_shows : StepShowsAt root_outset
+step_shows = step_shows_at root_outset
+
+pub ready_shows : ReadyShowsAt root_outset
+ready_shows = ready_shows_at root_outset

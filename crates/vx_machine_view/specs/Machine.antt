@@ -29,9 +29,14 @@ pub record Machine : Type 0 where
   pub phase : Phase
   pub root : Tasks
 
--- at the start, where the form's start doesn't refuse
+-- at the start, where the form's start doesn't refuse: the batches get their paths from the first pointer on, and the other is the eof
+-- pointer behind them
+abbrev pub start_from : Eof → Eof → Form → Bool → Machine
+start_from stream eof f m = record { phase = reading stream; root = started_task f m (1 ∷ []) eof [] false }
+
+-- of a whole write
 abbrev pub start : Form → Bool → Machine
-start f m = record { phase = reading first_batch; root = started_task f m (1 ∷ []) root_eof [] false }
+start f m = start_from first_batch root_eof f m
 
 abbrev pub may_source : Phase → Tasks → Bool
 may_source (reading e) root = true

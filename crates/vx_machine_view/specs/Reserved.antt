@@ -1,6 +1,8 @@
 -- How steps change what tasks have reserved in the tracker.
 use Rattle.std.specs.Prelude.{◌≡◌, ◌+◌, ℕ, Bool, List, IsTrue}
 use Rattle.vx_path.specs.Lists.{In}
+use Rattle.vx_path.specs.Path.{Eof}
+use Rattle.vx_named_tasks.specs.Names.{Outset}
 use Rattle.vx_plan.specs.PlanData.{Setting}
 use Rattle.vx_machine_turns.specs.Forms.{Form}
 use Rattle.vx_machine_turns.specs.Acts.{Seed}
@@ -10,8 +12,8 @@ use Rattle.vx_machine_promises.specs.Write.{Write, Future, Answer}
 use Rattle.vx_machine_state.specs.State.{Tasks}
 use Rattle.vx_machine_state.specs.Moves.{Step, steps}
 use Rattle.vx_machine_view.specs.Shows.{Shows}
-use Rattle.vx_machine_view.specs.Machine.{Machine, start, WholeStep, whole_steps, is_finished}
-use Rattle.vx_machine_view.specs.Whole.{ShowsMachine}
+use Rattle.vx_machine_view.specs.Machine.{Machine, start_from, WholeStep, whole_steps, is_finished}
+use Rattle.vx_machine_view.specs.Whole.{ShowsMachineAt, ShowsMachine}
 use Rattle.vx_machine_state.specs.Reserved.{reserved_by}
 
 -- each step of tasks that show a state changes it by what it adds to the tracker and takes from it
@@ -22,11 +24,11 @@ StepsReserve = (s : Setting) (number : List ℕ → ℕ) (next : ℕ) (all : Lis
 -- ---- of the whole machine
 
 -- nothing at the start
-abbrev pub StartReserves : Type 0
-StartReserves = (f : Form) (m : Bool) → reserved_by (start f m).root ≡ 0
+abbrev pub StartReservesAt : Eof → Eof → Type 0
+StartReservesAt stream eof = (f : Form) (m : Bool) → reserved_by (start_from stream eof f m).root ≡ 0
 
-abbrev pub WholeReserves : Type 0
-WholeReserves = (g : Write) (number : List ℕ → ℕ) (next : ℕ) (all : List (List ℕ)) (a : Answer) (f : Future) (m : Machine) (t : Tree) (w : WholeStep) → ShowsMachine g number m f t
+abbrev pub WholeReservesAt : Outset → Type 0
+WholeReservesAt o = (g : Write) (number : List ℕ → ℕ) (next : ℕ) (all : List (List ℕ)) (a : Answer) (f : Future) (m : Machine) (t : Tree) (w : WholeStep) → ShowsMachineAt g o number m f t
     → In w (whole_steps g.setting all next a m) → reserved_by w.after.root + w.lowers ≡ reserved_by m.root + w.raises
 
 -- nor once it has finished

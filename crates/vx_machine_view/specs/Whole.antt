@@ -3,12 +3,12 @@ use Rattle.std.specs.Prelude.{◌≡◌, ℕ, zero, suc, Bool, true, false, List
 use Rattle.vx_model.specs.ChunkData.{ChunkData, piece_type, is_sound}
 use Rattle.vx_model.specs.Ty.{Ty}
 use Rattle.vx_path.specs.Lists.{In}
-use Rattle.vx_path.specs.Path.{eof_path}
+use Rattle.vx_path.specs.Path.{Eof, eof_path}
 use Rattle.vx_layout_spec.specs.LayoutTree.{renamed}
 use Rattle.vx_machine_state.specs.Images.{Careful}
 use Rattle.vx_tasks.specs.Task.{Append}
 use Rattle.vx_tasks.specs.Run.{nth}
-use Rattle.vx_named_tasks.specs.Names.{root_outset}
+use Rattle.vx_named_tasks.specs.Names.{onward, Outset, root_outset}
 use Rattle.vx_strategy_spec.specs.Walk.{walk}
 use Rattle.vx_plan.specs.PlanData.{Setting}
 use Rattle.vx_plan.specs.SourcePlan.{start_fault}
@@ -16,18 +16,18 @@ use Rattle.vx_machine_turns.specs.Forms.{Form, form_nodes, form_type}
 use Rattle.vx_machine_turns.specs.Locals.{source_local}
 use Rattle.vx_machine_turns.specs.Acts.{Act, put_item, close_queues, passes, shape_in, refuses, written_by}
 use Rattle.vx_machine_turns.specs.Readings.{layout_reading}
-use Rattle.vx_machine_turns.specs.Source.{source_acts, source_seed}
+use Rattle.vx_machine_turns.specs.Source.{source_acts, seed_at}
 use Rattle.vx_machine_turns.specs.Fuels.{Fuel, less}
 use Rattle.vx_machine_steps.specs.Tree.{Head, Tree, Leaf, Work, read, opened}
 use Rattle.vx_machine_steps.specs.Moves.{holding, all_paths, all_over, TreeMove, tree_moves}
 use Rattle.vx_machine_steps.specs.Stands.{Stands}
-use Rattle.vx_machine_promises.specs.Write.{Write, Future, Open, Answer, unasked, came, over, depth, begin, before, heard_by}
+use Rattle.vx_machine_promises.specs.Write.{Write, Future, Open, Answer, unasked, came, over, depth, begin_at, before, heard_by}
 use Rattle.vx_machine_state.specs.State.{Tasks}
 use Rattle.vx_machine_state.specs.Acts.{layouts_in}
 use Rattle.vx_machine_state.specs.Moves.{steps}
 use Rattle.vx_machine_state.specs.Typed.{Typed}
 use Rattle.vx_machine_view.specs.Shows.{Shows, types_of}
-use Rattle.vx_machine_view.specs.Machine.{Phase, reading, giving, closing, finished, Machine, start, WholeStep, whole_steps, is_finished, phase_ids, machine_ids}
+use Rattle.vx_machine_view.specs.Machine.{Phase, reading, giving, closing, finished, Machine, start_from, WholeStep, whole_steps, is_finished, phase_ids, machine_ids}
 
 abbrev pub form_of : Write → Form
 form_of g = walk form_nodes g.way g.type
@@ -53,38 +53,50 @@ PhaseShape past (giving e i) = shape_in past ≡ None
 PhaseShape past closing = shape_in past ≡ Some passes
 PhaseShape past finished = shape_in past ≡ Some passes
 
-abbrev pub source_at : Write → List Act → List Act → Head
-source_at g past todo = record {
-  seed = source_seed (form_of g) g.mark;
+-- wherever it began
+abbrev pub source_from : Write → Outset → List Act → List Act → Head
+source_from g o past todo = record {
+  seed = seed_at (form_of g) g.mark o;
   past = past;
   todo = todo;
-  local = source_local (form_of g) g.mark root_outset;
+  local = source_local (form_of g) g.mark o;
   over = true;
   inbox = [];
   closed = true;
 }
 
+abbrev pub source_at : Write → List Act → List Act → Head
+source_at g past todo = source_from g root_outset past todo
+
 -- what the root and all below it may grow to
 abbrev pub root_depth : Write → Fuel
 root_depth g = less (depth g) (form_type (form_of g))
 
--- The machine shows the state, where this comes of its source, and segments get these numbers.
-pub record ShowsMachine (g : Write) (number : List ℕ → ℕ) (m : Machine) (f : Future) (t : Tree) : Type 0 where
+-- The machine shows the state, where it began there, this comes of its source, and segments get these numbers.
+pub record ShowsMachineAt (g : Write) (o : Outset) (number : List ℕ → ℕ) (m : Machine) (f : Future) (t : Tree) : Type 0 where
   pub past : List Act
   pub kids : Tree
-  pub tree_is : t ≡ Work (source_at g past (phase_acts m.phase f)) kids Leaf
-  pub root : Shows g.setting number (root_depth g) (source_seed (form_of g) g.mark) 0 m.root kids
+  pub tree_is : t ≡ Work (source_from g o past (phase_acts m.phase f)) kids Leaf
+  pub root : Shows g.setting number (root_depth g) (seed_at (form_of g) g.mark o) 0 m.root kids
   pub one : types_of kids ≡ g.type ∷ []
   pub typed : PhaseTyped g.type m.phase
   pub shape : PhaseShape past m.phase
-  pub held : holding (source_at g past (phase_acts m.phase f)) ≡ phase_ids m.phase
+  pub held : holding (source_from g o past (phase_acts m.phase f)) ≡ phase_ids m.phase
+
+-- in a whole write
+abbrev pub ShowsMachine : Write → (List ℕ → ℕ) → Machine → Future → Tree → Type 0
+ShowsMachine g number m f t = ShowsMachineAt g root_outset number m f t
 
 -- ---- the start
 
+-- with these pointers
+abbrev pub outset_from : Eof → Eof → Outset
+outset_from stream eof = record { names = onward stream; eof = eof }
+
 -- where its start refuses nothing
-abbrev pub StartShows : Type 0
-StartShows = (g : Write) (number : List ℕ → ℕ) (f : Future) → start_fault g.setting g.way g.type g.mark ≡ None
-    → ShowsMachine g number (start (form_of g) g.mark) f (begin g [] f)
+abbrev pub StartShowsAt : Eof → Eof → Type 0
+StartShowsAt stream eof = (g : Write) (number : List ℕ → ℕ) (f : Future) → start_fault g.setting g.way g.type g.mark ≡ None
+    → ShowsMachineAt g (outset_from stream eof) number (start_from stream eof (form_of g) g.mark) f (begin_at g (outset_from stream eof) [] f)
 
 -- ---- steps
 
@@ -100,7 +112,7 @@ Asks t f closing k a = a ≡ unasked
 Asks t f finished k a = a ≡ unasked
 
 -- A step is a move. Where that isn't refused, and an append gets the number of its path, it leads to a state that is shown.
-pub record SameWhole (g : Write) (number : List ℕ → ℕ) (next : ℕ) (f : Future) (w : WholeStep) (m : TreeMove) : Type 0 where
+pub record SameWholeAt (g : Write) (o : Outset) (number : List ℕ → ℕ) (next : ℕ) (f : Future) (w : WholeStep) (m : TreeMove) : Type 0 where
   pub name : w.name ≡ m.name
   pub kind : w.kind ≡ m.act.kind
   pub refusal : w.refusal ≡ m.act.refusal
@@ -110,19 +122,22 @@ pub record SameWhole (g : Write) (number : List ℕ → ℕ) (next : ℕ) (f : F
   pub wrote : w.wrote ≡ written_by m.act.kind m.act.bytes
   pub raises : w.raises ≡ m.act.raises
   pub lowers : w.lowers ≡ m.act.lowers
-  pub after : IsFalse (refuses m.act) → ((p : List ℕ) → m.act.kind ≡ Append p → next ≡ number p) → ShowsMachine g number w.after f m.after
+  pub after : IsFalse (refuses m.act) → ((p : List ℕ) → m.act.kind ≡ Append p → next ≡ number p) → ShowsMachineAt g o number w.after f m.after
+
+abbrev pub SameWhole : Write → (List ℕ → ℕ) → ℕ → Future → WholeStep → TreeMove → Type 0
+SameWhole g number next f w m = SameWholeAt g root_outset number next f w m
 
 -- so it is of the step at each place
-abbrev pub StepShows : Type 0
-StepShows = (g : Write) (number : List ℕ → ℕ) (next : ℕ) (all : List (List ℕ)) (heard : Bool) (a : Answer) (f : Future) (m : Machine) (t : Tree) (k : ℕ) (w : WholeStep)
-    → Careful g.setting → Stands g.setting (depth g) t → Open (heard_by heard a) f → ShowsMachine g number m (before a f) t
+abbrev pub StepShowsAt : Outset → Type 0
+StepShowsAt o = (g : Write) (number : List ℕ → ℕ) (next : ℕ) (all : List (List ℕ)) (heard : Bool) (a : Answer) (f : Future) (m : Machine) (t : Tree) (k : ℕ) (w : WholeStep)
+    → Careful g.setting → Stands g.setting (depth g) t → Open (heard_by heard a) f → ShowsMachineAt g o number m (before a f) t
     → nth (whole_steps g.setting all next a m) k ≡ Some w → Asks g.type f m.phase k a
-    → (v : TreeMove) × (nth (tree_moves g.setting all (depth g) t) k ≡ Some v) × SameWhole g number next f w v
+    → (v : TreeMove) × (nth (tree_moves g.setting all (depth g) t) k ≡ Some v) × SameWholeAt g o number next f w v
 
 -- as many are ready
-abbrev pub ReadyShows : Type 0
-ReadyShows = (g : Write) (number : List ℕ → ℕ) (next : ℕ) (all : List (List ℕ)) (a : Answer) (f : Future) (m : Machine) (t : Tree) → Careful g.setting
-    → Stands g.setting (depth g) t → ShowsMachine g number m f t → length (whole_steps g.setting all next a m) ≡ length (tree_moves g.setting all (depth g) t)
+abbrev pub ReadyShowsAt : Outset → Type 0
+ReadyShowsAt o = (g : Write) (number : List ℕ → ℕ) (next : ℕ) (all : List (List ℕ)) (a : Answer) (f : Future) (m : Machine) (t : Tree) → Careful g.setting
+    → Stands g.setting (depth g) t → ShowsMachineAt g o number m f t → length (whole_steps g.setting all next a m) ≡ length (tree_moves g.setting all (depth g) t)
 
 -- ---- what is held, and the end
 
@@ -130,11 +145,11 @@ ReadyShows = (g : Write) (number : List ℕ → ℕ) (next : ℕ) (all : List (L
 abbrev pub SameHeld : List (List ℕ) → List (List ℕ) → Type 0
 SameHeld xs ys = ((p : List ℕ) → In p xs → In p ys) × ((p : List ℕ) → In p ys → In p xs)
 
-abbrev pub HeldShows : Type 0
-HeldShows = (g : Write) (number : List ℕ → ℕ) (f : Future) (m : Machine) (t : Tree) → Stands g.setting (depth g) t → ShowsMachine g number m f t → SameHeld (machine_ids m) (all_paths t)
+abbrev pub HeldShowsAt : Outset → Type 0
+HeldShowsAt o = (g : Write) (number : List ℕ → ℕ) (f : Future) (m : Machine) (t : Tree) → Stands g.setting (depth g) t → ShowsMachineAt g o number m f t → SameHeld (machine_ids m) (all_paths t)
 
-abbrev pub FinishShows : Type 0
-FinishShows = (g : Write) (number : List ℕ → ℕ) (f : Future) (m : Machine) (t : Tree) → Stands g.setting (depth g) t → ShowsMachine g number m f t → is_finished m ≡ all_over t
+abbrev pub FinishShowsAt : Outset → Type 0
+FinishShowsAt o = (g : Write) (number : List ℕ → ℕ) (f : Future) (m : Machine) (t : Tree) → Stands g.setting (depth g) t → ShowsMachineAt g o number m f t → is_finished m ≡ all_over t
 
 -- the layout that is made is the one that is read off the state
 abbrev pub LayoutShows : Type 0

@@ -4,12 +4,14 @@
 #![tactic(auto)]
 
 ghost use Rattle.vx_machine_view.specs.Steps.{StepsShow};
-ghost use Rattle.vx_machine_view.specs.Reserved.{StepsReserve, StartReserves, WholeReserves, FinishReserves};
+ghost use Rattle.vx_machine_view.specs.Reserved.{StepsReserve, StartReservesAt, WholeReservesAt, FinishReserves};
 ghost use Rattle.vx_machine_state.specs.Images.{ImagesAreCareful};
 ghost use Rattle.vx_machine_view.specs.Suited.{FormsAreSuited};
 ghost use Rattle.vx_machine_view.specs.Places.{WholeIsReady, SourcePlace, RootPlace};
 ghost use Rattle.vx_machine_view.specs.Underway.{ReachedStands, AppendIsNext, WriteMoves, WriteSteps, WriteReady, WriteEnds, WriteJoins};
-ghost use Rattle.vx_machine_view.specs.Whole.{StartShows, StepShows, ReadyShows, HeldShows, FinishShows, LayoutShows, SoundIsTyped, LeastAgrees};
+ghost use Rattle.vx_named_tasks.specs.Names.{Outset};
+ghost use Rattle.vx_path.specs.Path.{Eof};
+ghost use Rattle.vx_machine_view.specs.Whole.{StartShowsAt, StepShowsAt, ReadyShowsAt, HeldShowsAt, FinishShowsAt, LayoutShows, SoundIsTyped, LeastAgrees};
 
 /// What tasks can do is what the abstract ones can, and after it they show the state after it.
 pub fn tasks()
@@ -23,25 +25,25 @@ pub fn places()
     ensures root { RootPlace }
 {}
 
-/// The whole machine shows a state from its start on, step by step, for each future of its source.
+/// The whole machine shows a state from its start on, wherever it begins, step by step, for each future of its source.
 pub fn steps()
-    ensures start { StartShows }
-    ensures step { StepShows }
-    ensures ready { ReadyShows }
+    ensures start { (stream eof : Eof) → StartShowsAt stream eof }
+    ensures step { (o : Outset) → StepShowsAt o }
+    ensures ready { (o : Outset) → ReadyShowsAt o }
 {}
 
 /// What it holds, when it has finished, and with which layout.
 pub fn ends()
-    ensures held { HeldShows }
-    ensures finish { FinishShows }
+    ensures held { (o : Outset) → HeldShowsAt o }
+    ensures finish { (o : Outset) → FinishShowsAt o }
     ensures layout { LayoutShows }
 {}
 
 /// What tasks have reserved in the tracker: each step changes it by what it adds to the tracker and takes from it.
 pub fn reserves()
-    ensures start { StartReserves }
+    ensures start { (stream eof : Eof) → StartReservesAt stream eof }
     ensures steps { StepsReserve }
-    ensures whole { WholeReserves }
+    ensures whole { (o : Outset) → WholeReservesAt o }
     ensures finish { FinishReserves }
 {}
 

@@ -1,11 +1,11 @@
-use Rattle.vx_machine_view.proofs.Ending.{held_shows, finish_shows, layout_shows}
+use Rattle.vx_machine_view.proofs.Ending.{held_shows_at, finish_shows_at, layout_shows}
 use Rattle.vx_machine_view.proofs.ends.Goals as goal
 
 pub returns-clause-held : goal.returns-clause-held
-returns-clause-held c = held_shows
+returns-clause-held c = held_shows_at
 
 pub returns-clause-finish : goal.returns-clause-finish
-returns-clause-finish c = finish_shows
+returns-clause-finish c = finish_shows_at
 
 pub returns-clause-layout : goal.returns-clause-layout
 returns-clause-layout c = layout_shows

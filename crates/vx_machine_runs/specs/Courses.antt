@@ -1,0 +1,118 @@
+-- Runs of the machine wherever it begins and over whatever sink: one of its own, or one that others use too.
+use Rattle.std.specs.Prelude.{◌≡◌, ◌+◌, ◌%◌, ◌<◌, ℕ, suc, Bool, false, List, [], ◌∷◌, ◌++◌, map, length, Some, None, IsFalse}
+use Rattle.vx_model.specs.ChunkData.{ChunkData}
+use Rattle.vx_path.specs.Lists.{In}
+use Rattle.vx_path.specs.Path.{Eof}
+use Rattle.vx_machine_state.specs.Images.{Careful}
+use Rattle.vx_tasks.specs.State.{left}
+use Rattle.vx_tasks.specs.Rules.{AtLeast}
+use Rattle.vx_tasks.specs.Run.{Note, nth, first_pick}
+use Rattle.vx_tasks.specs.Runs.{noted}
+use Rattle.vx_cut_laws.specs.Cut.{cut}
+use Rattle.vx_named_tasks.specs.Names.{Outset, CanBegin}
+use Rattle.vx_plan.specs.PlanData.{Pair}
+use Rattle.vx_plan.specs.Number.{sorted}
+use Rattle.vx_plan.specs.SourcePlan.{start_fault}
+use Rattle.vx_machine_steps.specs.Tree.{counts}
+use Rattle.vx_machine_steps.specs.Runs.{picks_after}
+use Rattle.vx_machine_promises.specs.Write.{Write, Future, Open, Answer, scripts_at, planned_at, taken_by, heard_by, before}
+use Rattle.vx_machine_promises.specs.Reached.{ReachedAt}
+use Rattle.vx_machine_state.specs.Reserved.{reserved_by}
+use Rattle.vx_machine_view.specs.Machine.{Machine, start_from, WholeStep, whole_steps, is_finished, machine_ids}
+use Rattle.vx_machine_view.specs.Places.{whole_ready}
+use Rattle.vx_machine_view.specs.Whole.{form_of, outset_from, ShowsMachineAt}
+use Rattle.vx_machine_runs.specs.Runs.{Asking, TypedAnswer, BeforeEnd, PickedBy}
+
+-- where a run stands: the machine, the batches that were taken, whether the end is told, what was appended, and the numbers that the
+-- sink gave
+pub record Point : Type 0 where
+  pub machine : Machine
+  pub taken : List ChunkData
+  pub heard : Bool
+  pub history : List Pair
+  pub numbers : List ℕ
+
+-- at the start: the batches get their paths from the first pointer on, and the other is the eof pointer behind them
+abbrev pub start_point : Write → Eof → Eof → Point
+start_point g stream eof = record { machine = start_from stream eof (form_of g) g.mark; taken = []; heard = false; history = []; numbers = [] }
+
+-- behind a step, in which the source told this, and the sink gave this number to what was appended
+abbrev pub point_after : Point → Answer → ℕ → WholeStep → Point
+point_after x told number w =
+    record { machine = w.after; taken = taken_by x.taken told; heard = heard_by x.heard told; history = x.history ++ w.wrote; numbers = x.numbers ++ map (λ p. number) w.wrote }
+
+-- a ready step leads from one point to the next, with this note
+pub record Goes (g : Write) (x y : Point) (n : Note) : Type 0 where
+  pub told : Answer
+  pub number : ℕ
+  pub step : WholeStep
+  pub place : nth (whole_steps g.setting (machine_ids x.machine) number told x.machine) n.picked ≡ Some step
+  pub asks : Asking x.machine.phase n.picked told
+  pub typed : TypedAnswer g.type told
+  pub once : BeforeEnd x.heard told
+  pub fits : IsFalse step.misfit
+  pub unrefused : step.refusal ≡ None
+  pub note : n ≡ noted (whole_ready (machine_ids x.machine) x.machine) n.picked step.name step.kind
+  pub left : y ≡ point_after x told number step
+
+-- such steps lead from one point to another
+abbrev pub GoesBy : Write → Point → List Note → Point → Type 0
+GoesBy g x [] y = x ≡ y
+GoesBy g x (n ∷ ns) y = (z : Point) × Goes g x z n × GoesBy g z ns y
+
+-- The write has come here from these pointers: its start refuses nothing, and the steps of these notes, as its schedule picks them, have led
+-- to where it stands.
+pub record HasComeTo (g : Write) (stream eof : Eof) (notes : List Note) (x : Point) : Type 0 where
+  pub careful : Careful g.setting
+  pub starts : start_fault g.setting g.way g.type g.mark ≡ None
+  pub picked : PickedBy g.schedule notes
+  pub comes : GoesBy g (start_point g stream eof) notes x
+
+-- ---- the state that the machine shows
+
+-- what the tracker counts there: what it counted at the start, and what the machine's tasks have reserved
+abbrev pub tracked_at : Write → Point → ℕ
+tracked_at g x = g.tracker + reserved_by x.machine.root
+
+-- each path that was appended has its number
+abbrev pub Numbered : (List ℕ → ℕ) → Point → Type 0
+Numbered number x = map (λ p. number p.0) x.history ≡ x.numbers
+
+-- The state to which these notes lead, where this comes of the source. The machine shows it, whatever numbers the sink will give.
+pub record StandsIn (g : Write) (o : Outset) (notes : List Note) (x : Point) (f : Future) : Type 0 where
+  pub reached : ReachedAt g o x.taken f notes x.history (tracked_at g x)
+  pub shows : (number : List ℕ → ℕ) → Numbered number x → ShowsMachineAt g o number x.machine f reached.tree
+
+-- of each future that is still open, with whose batches the machine can begin there
+abbrev pub ForFutures : Outset → Point → (Future → Type 0) → Type 0
+ForFutures o x P = (f : Future) → Open x.heard f → CanBegin o (length (x.taken ++ f.later)) → P f
+
+-- In that state so many acts are left of the tasks of the batches taken and of those that may come. A refusal ends its task.
+pub record LeavesIn (g : Write) (o : Outset) (notes : List Note) (x : Point) (f : Future) (n : ℕ) : Type 0 where
+  pub state : StandsIn g o notes x f
+  pub left_is : left (cut (scripts_at g o x.taken f)) (counts state.reached.tree) ≡ n
+
+-- ---- laws
+
+-- it is under way wherever it has come
+abbrev pub CourseIsUnderway : Type 0
+CourseIsUnderway = (g : Write) (stream eof : Eof) (notes : List Note) (x : Point) → HasComeTo g stream eof notes x
+    → ForFutures (outset_from stream eof) x (λ f. StandsIn g (outset_from stream eof) notes x f)
+
+-- something is ready until the machine has finished
+abbrev pub CourseIsReady : Type 0
+CourseIsReady = (g : Write) (stream eof : Eof) (notes : List Note) (x : Point) → HasComeTo g stream eof notes x → CanBegin (outset_from stream eof) (length x.taken)
+    → IsFalse (is_finished x.machine) → 0 < whole_ready (machine_ids x.machine) x.machine
+
+-- what it has appended are the first pairs of the plan, in order of path; each of the others has a path that is at least one of those held
+abbrev pub CourseIsFront : Type 0
+CourseIsFront = (g : Write) (stream eof : Eof) (notes : List Note) (x : Point) → HasComeTo g stream eof notes x
+    → ForFutures (outset_from stream eof) x (λ f. (more : List Pair) × (sorted (planned_at g (outset_from stream eof) x.taken f).pairs ≡ x.history ++ more)
+    × ((p : Pair) → In p more → AtLeast (machine_ids x.machine) p.0))
+
+-- a step by the schedule's pick leads it on, and leaves one act less of all that may then still come
+abbrev pub CourseGoesOn : Type 0
+CourseGoesOn = (g : Write) (stream eof : Eof) (notes : List Note) (x y : Point) (n : Note) → HasComeTo g stream eof notes x → (d : Goes g x y n)
+    → n.picked ≡ first_pick (picks_after (length notes) g.schedule) % n.ready
+    → HasComeTo g stream eof (notes ++ (n ∷ [])) y
+    × ForFutures (outset_from stream eof) y (λ f. (k : ℕ) × LeavesIn g (outset_from stream eof) notes x (before d.told f) (suc k) × LeavesIn g (outset_from stream eof) (notes ++ (n ∷ [])) y f k)
