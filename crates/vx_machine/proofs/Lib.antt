@@ -13,3 +13,4 @@ pub mod RunCalls
 pub mod RunSteps
 pub mod Fewness
 pub mod Going
+pub mod Coming

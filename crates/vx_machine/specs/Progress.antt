@@ -1,27 +1,22 @@
--- How far a write has come by the steps of its machine, and what is still to be done.
-use Rattle.std.specs.Prelude.{◌≡◌, ◌+◌, ◌<◌, ℕ, suc, Bool, false, List, [], ◌∷◌, ◌++◌, length, slice_index, Option, None}
+-- How far a write has come by the steps of its machine, and what is still to be done: wherever its paths begin, and over whatever order.
+use Rattle.std.specs.Prelude.{◌≡◌, ◌+◌, ◌<◌, ℕ, zero, suc, Bool, false, List, [], ◌∷◌, ◌++◌, length, slice_index, Option}
 use Rattle.vx_model.specs.Ty.{Ty}
 use Rattle.vx_model.specs.ChunkData.{ChunkData}
 use Rattle.vx_path.specs.Lists.{In}
-use Rattle.vx_path.specs.Path.{Eof, root_eof}
-use Rattle.vx_tasks.specs.State.{left}
+use Rattle.vx_path.specs.Path.{Eof}
 use Rattle.vx_tasks.specs.Rules.{AtLeast}
 use Rattle.vx_tasks.specs.Run.{Note}
-use Rattle.vx_tasks.specs.Runs.{first_batch}
-use Rattle.vx_cut_laws.specs.Cut.{cut}
+use Rattle.vx_named_tasks.specs.Names.{CanBegin}
 use Rattle.vx_strategy_spec.specs.StrategyData.{StrategyData}
 use Rattle.vx_plan.specs.PlanData.{Setting, Pair}
 use Rattle.vx_plan.specs.Number.{sorted}
-use Rattle.vx_plan.specs.SourcePlan.{start_fault}
 use Rattle.vx_order.specs.Outlet.{Outlet, own, shared}
 use Rattle.vx_write_answer.specs.declared.step.Step.{Step}
-use Rattle.vx_machine_steps.specs.Tree.{counts}
-use Rattle.vx_machine_promises.specs.Write.{Write, Future, Open, scripts, planned, before}
-use Rattle.vx_machine_promises.specs.Reached.{Reached}
+use Rattle.vx_machine_promises.specs.Write.{Write, planned_at, before}
 use Rattle.vx_machine_state.specs.Images.{Careful}
 use Rattle.vx_machine_view.specs.Machine.{Machine, is_finished, machine_ids}
-use Rattle.vx_machine_view.specs.Underway.{Showing}
-use Rattle.vx_machine_runs.specs.Runs.{Stand, outset, tracked, Done, Led, PickedBy}
+use Rattle.vx_machine_view.specs.Whole.{outset_from}
+use Rattle.vx_machine_runs.specs.Courses.{Point, start_point, Goes, HasComeTo, ForFutures, LeavesIn}
 use Rattle.vx_machine_nodes.specs.Acting.{Behind}
 use Rattle.vx_machine_node.specs.Context.{Allowed}
 use Rattle.vx_machine_node.specs.Outcome.{action_of}
@@ -31,63 +26,58 @@ use Rattle.vx_machine.specs.SourceActs.{Tells}
 abbrev pub ShowsNote : Step → Note → Type 0
 ShowsNote s n = (s.ready ≡ n.ready) × (s.picked ≡ n.picked) × (s.task ≡ n.name) × (s.action ≡ action_of n.kind)
 
--- The write has come here: its start refuses nothing, and the steps of these notes, as its schedule picks them, have led the machine to
--- where it stands.
-pub record HasCome (g : Write) (first : ℕ) (notes : List Note) (x : Stand) (m : Machine) : Type 0 where
-  pub careful : Careful g.setting
-  pub starts : start_fault g.setting g.way g.type g.mark ≡ None
-  pub picked : PickedBy g.schedule notes
-  pub led : Led g first (outset g) notes x
+-- the write has come here from these pointers: the machine is where the steps of these notes have led
+pub record HasCome (g : Write) (stream eof : Eof) (notes : List Note) (x : Point) (m : Machine) : Type 0 where
+  pub come : HasComeTo g stream eof notes x
   pub machine_is : m ≡ x.machine
 
--- a machine that was started so, where the batches get paths from the first pointer on, is where each such write begins
+-- a machine that was started so is where each write by this strategy at this type begins from its pointers
 abbrev pub Begins : Allowed → StrategyData → Ty → Bool → Eof → Eof → Machine → Type 0
-Begins allowed w t mark stream eof m = (g : Write) (first : ℕ) → Careful g.setting → g.setting.allowed ≡ allowed → g.way ≡ w → g.type ≡ t → g.mark ≡ mark → stream ≡ first_batch → eof ≡ root_eof
-    → HasCome g first [] (outset g) m
+Begins allowed w t mark stream eof m = (g : Write) → Careful g.setting → g.setting.allowed ≡ allowed → g.way ≡ w → g.type ≡ t → g.mark ≡ mark → HasCome g stream eof [] (start_point g stream eof) m
 
 -- ---- nothing gets stuck
 
--- wherever a write has come, so many tasks are ready that there is one, until the machine has finished
+-- wherever a write has come whose machine can begin there with the batches taken, so many tasks are ready that there is one, until the
+-- machine has finished
 abbrev pub NeverStuck : Machine → ℕ → Type 0
-NeverStuck m ready = (g : Write) (first : ℕ) (notes : List Note) (x : Stand) → HasCome g first notes x m → is_finished m ≡ false → 0 < ready
+NeverStuck m ready = (g : Write) (stream eof : Eof) (notes : List Note) (x : Point) → HasCome g stream eof notes x m → CanBegin (outset_from stream eof) (length x.taken) → is_finished m ≡ false → 0 < ready
 
 -- ---- what was appended
 
 -- Wherever a write has come, and whatever may still come of its source: what it has appended are the first pairs of the plan, in order of
 -- path, and each of the others has a path that is at least one of those that the machine holds.
 abbrev pub IsFront : Machine → Type 0
-IsFront m = (g : Write) (first : ℕ) (notes : List Note) (x : Stand) (f : Future) → HasCome g first notes x m → Open x.heard f
-    → (more : List Pair) × (sorted (planned g x.taken f).pairs ≡ x.history ++ more) × ((p : Pair) → In p more → AtLeast (machine_ids m) p.0)
+IsFront m = (g : Write) (stream eof : Eof) (notes : List Note) (x : Point) → HasCome g stream eof notes x m → ForFutures (outset_from stream eof) x (λ f. (more : List Pair)
+    × (sorted (planned_at g (outset_from stream eof) x.taken f).pairs ≡ x.history ++ more) × ((p : Pair) → In p more → AtLeast (machine_ids m) p.0))
 
--- ---- the work left
+-- ---- a step
 
--- So many acts are left of the tasks of the batches taken and of those that may come, in the state of the tasks to which these notes lead,
--- and which the machine shows. A refusal ends its task.
-pub record IsLeft (g : Write) (first : ℕ) (notes : List Note) (x : Stand) (f : Future) (n : ℕ) : Type 0 where
-  pub reached : Reached g x.taken f notes x.history (tracked g x)
-  pub shows : Showing g first x.taken x.machine f reached.tree
-  pub left_is : left (cut (scripts g x.taken f)) (counts reached.tree) ≡ n
+-- so many numbers, one by one
+abbrev pub numbers_from : ℕ → ℕ → List ℕ
+numbers_from first zero = []
+numbers_from first (suc n) = first ∷ numbers_from (suc first) n
 
--- a sink that nobody else uses gives this number next
-abbrev pub NextIs : Outlet → ℕ → Type 0
-NextIs (own s) n = s.next ≡ n
-NextIs (shared s) n = ⊥
+-- Over a sink of its own the segments have the numbers from this one on, and the sink gives the next one next. Of a sink that others use
+-- too, the order tells how many it has written: so many more than before.
+abbrev pub GoesOnFrom : ℕ → Outlet → Point → Type 0
+GoesOnFrom first (own s) x = (s.next ≡ first + length x.history) × (x.numbers ≡ numbers_from first (length x.history))
+GoesOnFrom first (shared s) x = s.writes ≡ first + length x.history
 
 -- A step leads the write on, and of all that may then still come one act less is left.
-pub record LeadsOn (g : Write) (first : ℕ) (notes : List Note) (x : Stand) (to_come to_come_then : Option (List ChunkData)) (outlet outlet_then : Outlet) (new : Machine) (s : Step) : Type 0 where
+pub record LeadsOn (g : Write) (stream eof : Eof) (notes : List Note) (x : Point) (to_come to_come_then : Option (List ChunkData)) (outlet outlet_then : Outlet) (new : Machine) (s : Step) : Type 0 where
   -- where the write has then come, and the step's note
-  pub stand : Stand
+  pub point : Point
   pub note : Note
   pub shows : ShowsNote s note
-  pub done : Done g first x stand note
-  pub comes : HasCome g first (notes ++ (note ∷ [])) stand new
-  -- what the source told in it, and what the sink was told
-  pub tells : Tells g.type to_come to_come_then done.told
-  pub sink : Behind outlet (first + length x.history) done.step.wrote outlet_then
-  pub next : NextIs outlet_then (first + length stand.history)
-  pub falls : (f : Future) → Open stand.heard f → (n : ℕ) × IsLeft g first notes x (before done.told f) (suc n) × IsLeft g first (notes ++ (note ∷ [])) stand f n
+  pub goes : Goes g x point note
+  pub comes : HasCome g stream eof (notes ++ (note ∷ [])) point new
+  -- what the source told in it, and what the sink was told, which gave this number
+  pub tells : Tells g.type to_come to_come_then goes.told
+  pub sink : Behind outlet goes.number goes.step.wrote outlet_then
+  pub numbers : (first : ℕ) → GoesOnFrom first outlet x → GoesOnFrom first outlet_then point
+  pub falls : ForFutures (outset_from stream eof) point (λ f. (n : ℕ) × LeavesIn g (outset_from stream eof) notes x (before goes.told f) (suc n) × LeavesIn g (outset_from stream eof) (notes ++ (note ∷ [])) point f n)
 
--- so it does wherever a write by this setting at this type has come, by the pick of its schedule, over a sink of its own
+-- so it does wherever a write by this setting at this type has come, by the pick of its schedule
 abbrev pub StepsOn : Setting → Ty → ℕ → Option (List ChunkData) → Option (List ChunkData) → Outlet → Outlet → Machine → Machine → Step → Type 0
-StepsOn setting t pick to_come to_come_then outlet outlet_then m new s = (g : Write) (first : ℕ) (notes : List Note) (x : Stand) → g.setting ≡ setting → g.type ≡ t → pick ≡ slice_index g.schedule (length notes)
-    → NextIs outlet (first + length x.history) → HasCome g first notes x m → LeadsOn g first notes x to_come to_come_then outlet outlet_then new s
+StepsOn setting t pick to_come to_come_then outlet outlet_then m new s = (g : Write) (stream eof : Eof) (notes : List Note) (x : Point) → g.setting ≡ setting → g.type ≡ t → pick ≡ slice_index g.schedule (length notes)
+    → HasCome g stream eof notes x m → LeadsOn g stream eof notes x to_come to_come_then outlet outlet_then new s

@@ -176,13 +176,12 @@ impl Machine {
         requires { Owned (O.active order.now) (machine_stock self.now) }
         ensures told { result ≡ counted (machine_ready (O.active order.now) self.now) }
         ensures view { result ≡ counted (whole_ready (fin.keys (O.active order.now)) (machine_of self.now)) }
-        // Wherever a write has come, there is one until the machine has finished, whatever is picked.
+        // Wherever a write has come, over whatever order, there is one until the machine has finished, whatever is picked.
         ensures never_stuck { Exact (O.active order.now) (machine_stock self.now) → NeverStuck (machine_of self.now) result }
         // What was appended by then are the first pairs of the plan, and no other pair's path is below the least held one.
         ensures front { IsFront (machine_of self.now) }
     {
-        vx_machine_runs::runs();
-        vx_machine_promises::fronts();
+        vx_machine_runs::courses();
         let own = one(self.source_may());
         own.saturating_add(self.root.ready(order))
     }
@@ -264,7 +263,7 @@ impl Machine {
         ensures cause { IfErr result StepMay }
         ensures done { IfOk result (λ s. StepDone ctx.old (C.image (C.kind compressor.old)) (fin.keys (O.active order.old)) s.picked (B.kind source.old) (B.to_come source.old) (B.to_come source.new)
             (O.outlet order.old) (O.outlet order.new) (machine_of self.old) (machine_of self.new) s.task s.action) }
-        // Wherever a write has come over a sink of its own, it leads the write on, and one act less is left.
+        // Wherever a write has come, over whatever order, it leads the write on, and one act less is left.
         ensures leads { IfOk result (λ s. Exact (O.active order.old) (machine_stock self.old)
             → StepsOn (setting_of ctx.old (C.image (C.kind compressor.old))) (B.kind source.old) pick (B.to_come source.old) (B.to_come source.new) (O.outlet order.old) (O.outlet order.new) (machine_of self.old) (machine_of self.new) s) }
         ensures refused { IfErr result (StepFails ctx.old (C.image (C.kind compressor.old)) (counted_bytes ctx.old) (fin.keys (O.active order.old)) (pick % machine_ready (O.active order.old) self.old) (B.kind source.old) (B.to_come source.old) (B.to_come source.new)
@@ -274,8 +273,7 @@ impl Machine {
         ensures compressor { C.kind compressor.new ≡ C.kind compressor.old }
         ensures known { OnOk result (Knows counts.new (row (out-Task self.new.root).kids.items)) }
     {
-        vx_machine_runs::runs();
-        vx_machine_promises::steps();
+        vx_machine_runs::courses();
         let picked = pick % ready;
         let own = one(self.source_may());
         if picked < own {
@@ -343,7 +341,7 @@ impl Machine {
         ensures cause { IfErr result StepMay }
         ensures done { IfOk result (λ s. StepDone ctx.old (C.image (C.kind compressor.old)) (fin.keys (O.active order.old)) s.picked (B.kind source.old) (B.to_come source.old) (B.to_come source.new)
             (O.outlet order.old) (O.outlet order.new) (machine_of self.old) (machine_of self.new) s.task s.action) }
-        // Wherever a write has come over a sink of its own, it leads the write on, and one act less is left.
+        // Wherever a write has come, over whatever order, it leads the write on, and one act less is left.
         ensures leads { IfOk result (λ s. Exact (O.active order.old) (machine_stock self.old)
             → StepsOn (setting_of ctx.old (C.image (C.kind compressor.old))) (B.kind source.old) pick (B.to_come source.old) (B.to_come source.new) (O.outlet order.old) (O.outlet order.new) (machine_of self.old) (machine_of self.new) s) }
         ensures refused { IfErr result (StepFails ctx.old (C.image (C.kind compressor.old)) (counted_bytes ctx.old) (fin.keys (O.active order.old)) (pick % machine_ready (O.active order.old) self.old) (B.kind source.old) (B.to_come source.old) (B.to_come source.new)

@@ -20,11 +20,10 @@ use Rattle.vx_machine.specs.Acting.{IsAppended, Behind}
 use Rattle.vx_machine.specs.Outcome.{action_of}
 use Rattle.vx_machine.specs.SourceActs.{Tells}
 use Rattle.vx_machine.specs.Steps.{WholeStepped}
-use Rattle.vx_machine.specs.Progress.{NextIs}
 use Rattle.vx_machine.specs.Run.{At, ready_at, Ran}
 use Rattle.vx_machine_ran.specs.Ran.{write_by, OwnSink, at_start, SameStand, Onward, RunsAreLed}
 use Rattle.vx_machine.proofs.Fewness.{Few, whole_few}
-use Rattle.vx_machine.proofs.Going.{pick_here, one_later, led_more, once, to, note, done, as_many}
+use Rattle.vx_machine.proofs.Going.{pick_here, one_later, NextIs, led_more, once, to, note, done, as_many}
 
 -- ---- what is told
 

@@ -7,7 +7,7 @@ use Rattle.vx_machine.specs.Source.{phase_stock}
 use Rattle.vx_machine.specs.Whole.{may_source, machine_ready}
 use Rattle.vx_machine.specs.Run.{ready_at}
 use Rattle.vx_machine.specs.View.{machine_of}
-use Rattle.vx_machine.proofs.Going.{never_stuck, is_front}
+use Rattle.vx_machine.proofs.Coming.{never_stuck, is_front}
 use Rattle.vx_machine.proofs.ReadyViews.{machine_view}
 use Rattle.vx_machine.proofs.RunSteps.{ready_held}
 use Rattle.vx_machine.proofs.machine.Machine.ready.Goals as goal
@@ -26,10 +26,10 @@ pub returns-clause-view : goal.returns-clause-view
 returns-clause-view g c = returns-clause-told g c ∙ ap counted (sym (machine_view (g.O.Order.active c.args.order.now) c.args.self.now))
 
 pub returns-clause-never_stuck : goal.returns-clause-never_stuck
-returns-clause-never_stuck g c = λ exact. never_stuck c.runs.ensures.by (machine_of c.args.self.now) c.saturating_add.result (λ s none.
+returns-clause-never_stuck g c = λ exact. never_stuck c.courses.ensures.ready (machine_of c.args.self.now) c.saturating_add.result (λ s none.
     let h : ready_at (machine_of c.args.self.now) ≡ machine_ready (g.O.Order.active c.args.order.now) c.args.self.now = ready_held (g.O.Order.active c.args.order.now) c.args.self.now exact s in
     let t : c.saturating_add.result ≡ counted (machine_ready (g.O.Order.active c.args.order.now) c.args.self.now) = returns-clause-told g c in
     omega (arith, h, t, none))
 
 pub returns-clause-front : goal.returns-clause-front
-returns-clause-front g c = is_front c.runs.ensures.by c.fronts.ensures (machine_of c.args.self.now)
+returns-clause-front g c = is_front c.courses.ensures.front (machine_of c.args.self.now)

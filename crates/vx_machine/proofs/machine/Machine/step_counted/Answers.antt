@@ -16,7 +16,7 @@ use Rattle.vx_sink.specs.ContextView.{counted as counted_bytes}
 use Rattle.vx_machine_node.specs.Context.{setting_of}
 use Rattle.vx_machine_task.specs.View.{task_row, row}
 use Rattle.vx_machine.specs.View.{phase_of, machine_of}
-use Rattle.vx_machine.proofs.Going.{steps_on}
+use Rattle.vx_machine.proofs.Coming.{steps_on}
 use Rattle.vx_machine.proofs.ReadyViews.{own_source, behind_source}
 use Rattle.vx_machine.proofs.StepShows.{source_stepped, source_refused, source_memory, root_stepped, root_refused}
 use Rattle.vx_machine_nodes.proofs.WriteSteps.{kept_same}
@@ -132,13 +132,13 @@ returns-in-Err-step-clause-refused g c = λ number.
 
 pub returns-in-Ok-clause-leads : goal.returns-in-Ok-clause-leads
 returns-in-Ok-clause-leads g c = λ exact.
-    steps_on c.runs.ensures.by c.steps.ensures.step c.args.ctx.now (g.C.CompressorPlugin.image (g.C.CompressorPlugin.kind c.args.compressor.now)) (g.O.Order.active c.args.order.now) c.args.self.now exact (g.B.BatchSource.kind c.args.source.now) c.args.pick
+    steps_on c.courses.ensures.on c.args.ctx.now (g.C.CompressorPlugin.image (g.C.CompressorPlugin.kind c.args.compressor.now)) (g.O.Order.active c.args.order.now) c.args.self.now exact (g.B.BatchSource.kind c.args.source.now) c.args.pick
     (g.B.BatchSource.to_come c.args.source.now) (g.B.BatchSource.to_come c.step_source.new.source) (g.O.Order.outlet c.args.order.now) (g.O.Order.outlet c.step_source.new.order) (machine_of c.step_source.new.self)
     (record { ready = c.args.ready; picked = c.args.pick % c.args.ready; task = c.in_ok-task.task; action = c.in-Ok.action }) c.requires.count refl (returns-in-Ok-clause-done g c)
 
 pub returns-in-Ok-step-clause-leads : goal.returns-in-Ok-step-clause-leads
 returns-in-Ok-step-clause-leads g c = λ exact.
-    steps_on c.runs.ensures.by c.steps.ensures.step c.args.ctx.now (g.C.CompressorPlugin.image (g.C.CompressorPlugin.kind c.args.compressor.now)) (g.O.Order.active c.args.order.now) c.args.self.now exact (g.B.BatchSource.kind c.args.source.now) c.args.pick
+    steps_on c.courses.ensures.on c.args.ctx.now (g.C.CompressorPlugin.image (g.C.CompressorPlugin.kind c.args.compressor.now)) (g.O.Order.active c.args.order.now) c.args.self.now exact (g.B.BatchSource.kind c.args.source.now) c.args.pick
     (g.B.BatchSource.to_come c.args.source.now) (g.B.BatchSource.to_come c.args.source.now) (g.O.Order.outlet c.args.order.now) (g.O.Order.outlet c.step.new.order) _
     (record { ready = c.args.ready; picked = c.args.pick % c.args.ready; task = c.in-Ok-step.did.task; action = c.in-Ok-step.did.action }) c.requires.count refl (returns-in-Ok-step-clause-done g c)
 
