@@ -27,8 +27,8 @@ use Rattle.vx_machine_tasks.proofs.table_start.start_fed.Goals as goal
 
 -- the child
 
-pub start_task-requires-clause-owned : goal.start_task-requires-clause-owned
-start_task-requires-clause-owned g c =
+pub start_task-requires : goal.start_task-requires
+start_task-requires g c =
     let u : Active = g.O.Order.active c.args.order.now in
     fed_pointer u u u (end_stock c.args.eof) (item_stock c.args.item) c.args.kids.now.items c.requires.owned
 

@@ -28,32 +28,32 @@ use Rattle.vx_kept.specs.declared.counts.Counts.TheOpen.{Counts-F}
 use Rattle.vx_kept.proofs.Parts.{out_roll as counts_roll}
 use Rattle.vx_kept.proofs.Asking.{fresh_knows, fresh_kid}
 use Rattle.vx_machine_task.proofs.Counting.{fresh_sum, Found, found, kid_is, stepped_known}
-use Rattle.vx_machine_tasks.proofs.+step.Goals as goal
+use Rattle.vx_machine_tasks.proofs.steps.+step.Goals as goal
 
-pub steps::step-may-ready-requires : goal.steps::step-may-ready-requires
-steps::step-may-ready-requires g t c = head_owned (g.O.Order.active c.args.order.now) c.args.task.now c.requires.owned
+pub step-may-ready-requires : goal.step-may-ready-requires
+step-may-ready-requires g t c = head_owned (g.O.Order.active c.args.order.now) c.args.task.now c.requires.owned
 
-pub steps::step-act-requires-clause-ready : goal.steps::step-act-requires-clause-ready
-steps::step-act-requires-clause-ready g t c =
+pub step-act-requires-clause-ready : goal.step-act-requires-clause-ready
+step-act-requires-clause-ready g t c =
     let u : Active = g.O.Order.active c.args.order.now in
     let a : c.may-ready.result ≡ may_now u (out-Task c.args.task.now).head (kids_of (out-Task c.args.task.now).kids.items) = c.may-ready.ensures.told ∙ ap (λ z. may_now u (out-Task c.args.task.now).head (kids_of z)) c.deref.ensures.value in
     let now : may_now u (out-Task c.args.task.now).head (kids_of (out-Task c.args.task.now).kids.items) ≡ true = sym a ∙ one_true c.may-ready.result c.args.k (subst (λ n. c.args.k < n) c.one-own.ensures c.if-k-own.true) in
     subst (λ (z : Task-F Task). may_now u z.head (kids_of z.kids.items) ≡ true) (sym (out_roll (out-Task c.args.task.now))) now
 
-pub steps::step-act-requires-clause-allowed : goal.steps::step-act-requires-clause-allowed
-steps::step-act-requires-clause-allowed g t c =
+pub step-act-requires-clause-allowed : goal.step-act-requires-clause-allowed
+step-act-requires-clause-allowed g t c =
     subst (λ (z : Task-F Task). AllMay (g.O.Order.may_write c.args.order.now) (next_pairs z.head.todo.items)) (sym (out_roll (out-Task c.args.task.now)))
     (head_may (g.O.Order.may_write c.args.order.now) c.args.task.now c.requires.allowed)
 
-pub steps::step-act-requires-clause-known : goal.steps::step-act-requires-clause-known
-steps::step-act-requires-clause-known g t c =
+pub step-act-requires-clause-known : goal.step-act-requires-clause-known
+step-act-requires-clause-known g t c =
     let u : Active = g.O.Order.active c.args.order.now in
     let x = c.args.counts.now in
     let ks = (out-Task c.args.task.now).kids.items in
     subst (λ (z : Task-F Task). Knows x (row z.kids.items)) (sym (out_roll (out-Task c.args.task.now))) (fresh_knows (fin.keys u) (asked_of x) 0 (ready_of x) (kids_in x) (row ks) c.requires.fresh)
 
-pub steps::step-step_kids-requires : goal.steps::step-step_kids-requires
-steps::step-step_kids-requires g t c κs within =
+pub step-step_kids-requires : goal.step-step_kids-requires
+step-step_kids-requires g t c κs within =
     let u : Active = g.O.Order.active c.args.order.now in
     let v : out-Task (roll-Task (out-Task c.args.task.now)) ≡ out-Task c.args.task.now = out_roll (out-Task c.args.task.now) in
     let kv : c.deref_mut.result.now ≡ (out-Task c.args.task.now).kids.items = c.deref_mut.ensures.value ∙ ap (λ (z : Task-F Task). z.kids.items) v in
@@ -72,37 +72,37 @@ steps::step-step_kids-requires g t c κs within =
     let reserved : tasks_reserved c.deref_mut.result.now ≤ counted_bytes c.args.ctx.now = slice_within (counted_bytes c.args.ctx.now) c.args.task.now c.deref_mut.result.now kv c.requires.reserved in
     search (rules, arith, o, falls, there, may, fresh, reserved)
 
-pub steps::step-returns-clause-moved : goal.steps::step-returns-clause-moved
-steps::step-returns-clause-moved g t c =
+pub step-returns-clause-moved : goal.step-returns-clause-moved
+step-returns-clause-moved g t c =
     let v : out-Task (roll-Task (out-Task c.args.task.now)) ≡ out-Task c.args.task.now = out_roll (out-Task c.args.task.now) in
     let kv : c.deref_mut.result.now ≡ (out-Task c.args.task.now).kids.items = c.deref_mut.ensures.value ∙ ap (λ (z : Task-F Task). z.kids.items) v in
     slice_moved (g.O.Order.active c.args.order.now) (g.O.Order.active c.step_kids.new.order) c.args.task.now _ c.requires.owned c.deref_mut.result.now c.step_kids.new.kids kv
     (simp the_lemmas refl) (kids_of_roll _ _ c.step_kids.new.kids (omega (arith, c.deref_mut.ensures.len))) c.step_kids.ensures.moved
 
-pub steps::step-returns-clause-tracked : goal.steps::step-returns-clause-tracked
-steps::step-returns-clause-tracked g t c =
+pub step-returns-clause-tracked : goal.step-returns-clause-tracked
+step-returns-clause-tracked g t c =
     let v : out-Task (roll-Task (out-Task c.args.task.now)) ≡ out-Task c.args.task.now = out_roll (out-Task c.args.task.now) in
     let kv : c.deref_mut.result.now ≡ (out-Task c.args.task.now).kids.items = c.deref_mut.ensures.value ∙ ap (λ (z : Task-F Task). z.kids.items) v in
     slice_paid c.args.ctx.now c.step_kids.new.ctx c.args.task.now _ c.deref_mut.result.now c.step_kids.new.kids kv
     (simp the_lemmas refl) (kids_of_roll _ _ c.step_kids.new.kids (omega (arith, c.deref_mut.ensures.len))) c.step_kids.ensures.tracked
 
-pub steps::step-returns-clause-known : goal.steps::step-returns-clause-known
-steps::step-returns-clause-known g t c =
+pub step-returns-clause-known : goal.step-returns-clause-known
+step-returns-clause-known g t c =
     subst (λ z. OnOk c.step_kids.result (Knows c.step_kids.new.counts (row z))) (sym (kids_of_roll _ _ c.step_kids.new.kids (omega (arith, c.deref_mut.ensures.len)))) c.step_kids.ensures.known
 
 -- of the act that is the task's own, and of the children's
-pub steps::step-returns-then-k-own-clause-done : goal.steps::step-returns-then-k-own-clause-done
-steps::step-returns-then-k-own-clause-done g t c =
+pub step-returns-then-k-own-clause-done : goal.step-returns-then-k-own-clause-done
+step-returns-then-k-own-clause-done g t c =
     own_done c.args.ctx.now (g.C.CompressorPlugin.image (g.C.CompressorPlugin.kind c.args.compressor.now)) (g.O.Order.active c.args.order.now) (g.O.Order.outlet c.args.order.now) (g.O.Order.outlet c.act.new.order) c.act.result c.args.task.now (roll-Task (out-Task c.args.task.now)) c.args.k
     (roll_out c.args.task.now) (none_before c.may-ready.result c.one-own.result c.args.k c.one-own.ensures c.if-k-own.true) (task_row c.act.new.task no_tasks) c.act.ensures.done
 
-pub steps::step-returns-then-k-own-clause-refused : goal.steps::step-returns-then-k-own-clause-refused
-steps::step-returns-then-k-own-clause-refused g t c =
+pub step-returns-then-k-own-clause-refused : goal.step-returns-then-k-own-clause-refused
+step-returns-then-k-own-clause-refused g t c =
     own_fails c.args.ctx.now (g.C.CompressorPlugin.image (g.C.CompressorPlugin.kind c.args.compressor.now)) (g.O.Order.active c.args.order.now) (g.O.Order.outlet c.args.order.now) (g.O.Order.outlet c.act.new.order) c.act.result c.args.task.now (roll-Task (out-Task c.args.task.now)) c.args.k
     (roll_out c.args.task.now) (none_before c.may-ready.result c.one-own.result c.args.k c.one-own.ensures c.if-k-own.true) c.act.ensures.refused
 
-pub steps::step-returns-clause-done : goal.steps::step-returns-clause-done
-steps::step-returns-clause-done g t c =
+pub step-returns-clause-done : goal.step-returns-clause-done
+step-returns-clause-done g t c =
     let u : Active = g.O.Order.active c.args.order.now in
     let h = (out-Task c.args.task.now).head in
     let ks = (out-Task c.args.task.now).kids.items in
@@ -114,8 +114,8 @@ steps::step-returns-clause-done g t c =
     below_done c.args.ctx.now (g.C.CompressorPlugin.image (g.C.CompressorPlugin.kind c.args.compressor.now)) u (g.O.Order.outlet c.args.order.now) (g.O.Order.outlet c.step_kids.new.order) c.step_kids.result c.args.task.now c.deref_mut.result.now c.args.k (c.args.k - c.one-own.result) kv p.0 p.1
     _ c.step_kids.new.kids (simp the_lemmas refl) (kids_of_roll _ _ c.step_kids.new.kids (omega (arith, c.deref_mut.ensures.len))) c.step_kids.ensures.done
 
-pub steps::step-returns-clause-refused : goal.steps::step-returns-clause-refused
-steps::step-returns-clause-refused g t c =
+pub step-returns-clause-refused : goal.step-returns-clause-refused
+step-returns-clause-refused g t c =
     let u : Active = g.O.Order.active c.args.order.now in
     let h = (out-Task c.args.task.now).head in
     let ks = (out-Task c.args.task.now).kids.items in
@@ -128,15 +128,15 @@ steps::step-returns-clause-refused g t c =
 
 -- ---- of the children
 
-pub steps::step_kids-find-place-requires : goal.steps::step_kids-find-place-requires
-steps::step_kids-find-place-requires g t c =
+pub step_kids-find-place-requires : goal.step_kids-find-place-requires
+step_kids-find-place-requires g t c =
     let u : Active = g.O.Order.active c.args.order.now in
     let x = c.args.counts.now in
     let e : counted (sum (ready_of x)) ≡ counted (ready_among u c.args.kids.now) = fresh_sum u c.args.kids.now (asked_of x) (ready_of x) (kids_in x) c.requires.fresh in
     omega (arith, e, c.requires.there)
 
-pub steps::step_kids-offset_bounds-kids-place : goal.steps::step_kids-offset_bounds-kids-place
-steps::step_kids-offset_bounds-kids-place g t c =
+pub step_kids-offset_bounds-kids-place : goal.step_kids-offset_bounds-kids-place
+step_kids-offset_bounds-kids-place g t c =
     let u : Active = g.O.Order.active c.args.order.now in
     let y = c.args.counts.now in
     let ts = c.args.kids.now in
@@ -146,8 +146,8 @@ steps::step_kids-offset_bounds-kids-place g t c =
     let p : i < length ts = w.place in
     search (rules, arith, p)
 
-pub steps::step_kids-bounds-kids-place : goal.steps::step_kids-bounds-kids-place
-steps::step_kids-bounds-kids-place g t c =
+pub step_kids-bounds-kids-place : goal.step_kids-bounds-kids-place
+step_kids-bounds-kids-place g t c =
     let u : Active = g.O.Order.active c.args.order.now in
     let y = c.args.counts.now in
     let ts = c.args.kids.now in
@@ -156,8 +156,8 @@ steps::step_kids-bounds-kids-place g t c =
     found u ts (asked_of y) (ready_of y) (kids_in y) c.requires.fresh i c.find-place.result.1 c.args.k c.find-place.ensures.within c.find-place.ensures.place c.find-place.ensures.inside c.requires.there in
     w.place
 
-pub steps::step_kids-index_mut-requires : goal.steps::step_kids-index_mut-requires
-steps::step_kids-index_mut-requires g t c =
+pub step_kids-index_mut-requires : goal.step_kids-index_mut-requires
+step_kids-index_mut-requires g t c =
     let u : Active = g.O.Order.active c.args.order.now in
     let y = c.args.counts.now in
     let ts = c.args.kids.now in
@@ -166,8 +166,8 @@ steps::step_kids-index_mut-requires g t c =
     found u ts (asked_of y) (ready_of y) (kids_in y) c.requires.fresh i c.find-place.result.1 c.args.k c.find-place.ensures.within c.find-place.ensures.place c.find-place.ensures.inside c.requires.there in
     omega (arith, w.counts, (out-Counts y).kids.ok.0)
 
-pub steps::step_kids-step-requires : goal.steps::step_kids-step-requires
-steps::step_kids-step-requires g t c κs within =
+pub step_kids-step-requires : goal.step_kids-step-requires
+step_kids-step-requires g t c κs within =
     let u : Active = g.O.Order.active c.args.order.now in
     let y = c.args.counts.now in
     let ts = c.args.kids.now in
@@ -186,8 +186,8 @@ steps::step_kids-step-requires g t c κs within =
     let reserved : task_reserved x ≤ counted_bytes c.args.ctx.now = at_within (counted_bytes c.args.ctx.now) ts i x w.place is c.requires.reserved in
     search (rules, arith, o, falls, there, may, fresh, reserved)
 
-pub steps::step_kids-returns-in-Ok-clause-moved : goal.steps::step_kids-returns-in-Ok-clause-moved
-steps::step_kids-returns-in-Ok-clause-moved g t c =
+pub step_kids-returns-in-Ok-clause-moved : goal.step_kids-returns-in-Ok-clause-moved
+step_kids-returns-in-Ok-clause-moved g t c =
     let u : Active = g.O.Order.active c.args.order.now in
     let y = c.args.counts.now in
     let ts = c.args.kids.now in
@@ -198,8 +198,8 @@ steps::step_kids-returns-in-Ok-clause-moved g t c =
     let is : get_or ts i x ≡ x = ap (λ z. get_or ts i z) (sym c.index-kids-place.is) in
     at_moved task_stock u (g.O.Order.active c.step.new.order) ts i x c.step.new.task w.place is c.requires.owned c.step.ensures.moved
 
-pub steps::step_kids-returns-in-Err-clause-moved : goal.steps::step_kids-returns-in-Err-clause-moved
-steps::step_kids-returns-in-Err-clause-moved g t c =
+pub step_kids-returns-in-Err-clause-moved : goal.step_kids-returns-in-Err-clause-moved
+step_kids-returns-in-Err-clause-moved g t c =
     let u : Active = g.O.Order.active c.args.order.now in
     let y = c.args.counts.now in
     let ts = c.args.kids.now in
@@ -210,8 +210,8 @@ steps::step_kids-returns-in-Err-clause-moved g t c =
     let is : get_or ts i x ≡ x = ap (λ z. get_or ts i z) (sym c.index-kids-place.is) in
     at_moved task_stock u (g.O.Order.active c.step.new.order) ts i x c.step.new.task w.place is c.requires.owned c.step.ensures.moved
 
-pub steps::step_kids-returns-in-Ok-clause-done : goal.steps::step_kids-returns-in-Ok-clause-done
-steps::step_kids-returns-in-Ok-clause-done g t c =
+pub step_kids-returns-in-Ok-clause-done : goal.step_kids-returns-in-Ok-clause-done
+step_kids-returns-in-Ok-clause-done g t c =
     let u : Active = g.O.Order.active c.args.order.now in
     let y = c.args.counts.now in
     let ts = c.args.kids.now in
@@ -222,8 +222,8 @@ steps::step_kids-returns-in-Ok-clause-done g t c =
     let is : get_or ts i x ≡ x = ap (λ z. get_or ts i z) (sym c.index-kids-place.is) in
     kid_done c.args.ctx.now (g.C.CompressorPlugin.image (g.C.CompressorPlugin.kind c.args.compressor.now)) u (g.O.Order.outlet c.args.order.now) (g.O.Order.outlet c.step.new.order) (Ok c.in-Ok.did) ts i x c.args.k c.find-place.result.1 w.passed w.place is c.step.new.task c.in-Ok.ensures.done
 
-pub steps::step_kids-returns-in-Ok-clause-known : goal.steps::step_kids-returns-in-Ok-clause-known
-steps::step_kids-returns-in-Ok-clause-known g t c =
+pub step_kids-returns-in-Ok-clause-known : goal.step_kids-returns-in-Ok-clause-known
+step_kids-returns-in-Ok-clause-known g t c =
     let u : Active = g.O.Order.active c.args.order.now in
     let y = c.args.counts.now in
     let ts = c.args.kids.now in
@@ -234,8 +234,8 @@ steps::step_kids-returns-in-Ok-clause-known g t c =
     (subst (λ (z : Counts-F Counts). KnowsFrom (i ∷ z.asked.items) 0 z.ready z.kids.items (row (set ts i t))) (sym (counts_roll parts))
     (stepped_known u ts c.step.new.counts i t (ready_of y) (kids_in y) parts.kids.items (asked_of y) c.requires.fresh c.in-Ok.ensures.known refl))
 
-pub steps::step_kids-returns-in-Err-clause-refused : goal.steps::step_kids-returns-in-Err-clause-refused
-steps::step_kids-returns-in-Err-clause-refused g t c =
+pub step_kids-returns-in-Err-clause-refused : goal.step_kids-returns-in-Err-clause-refused
+step_kids-returns-in-Err-clause-refused g t c =
     let u : Active = g.O.Order.active c.args.order.now in
     let y = c.args.counts.now in
     let ts = c.args.kids.now in
@@ -246,8 +246,8 @@ steps::step_kids-returns-in-Err-clause-refused g t c =
     let is : get_or ts i x ≡ x = ap (λ z. get_or ts i z) (sym c.index-kids-place.is) in
     kid_fails c.args.ctx.now (g.C.CompressorPlugin.image (g.C.CompressorPlugin.kind c.args.compressor.now)) u (g.O.Order.outlet c.args.order.now) (g.O.Order.outlet c.step.new.order) (Err c.in-Err.error) ts i x c.args.k c.find-place.result.1 w.passed w.place is c.in-Err.ensures.refused
 
-pub steps::step_kids-returns-in-Ok-clause-tracked : goal.steps::step_kids-returns-in-Ok-clause-tracked
-steps::step_kids-returns-in-Ok-clause-tracked g t c =
+pub step_kids-returns-in-Ok-clause-tracked : goal.step_kids-returns-in-Ok-clause-tracked
+step_kids-returns-in-Ok-clause-tracked g t c =
     let u : Active = g.O.Order.active c.args.order.now in
     let y = c.args.counts.now in
     let ts = c.args.kids.now in
@@ -258,8 +258,8 @@ steps::step_kids-returns-in-Ok-clause-tracked g t c =
     let is : get_or ts i x ≡ x = ap (λ z. get_or ts i z) (sym c.index-kids-place.is) in
     at_paid c.args.ctx.now c.step.new.ctx ts i x c.step.new.task w.place is c.step.ensures.tracked
 
-pub steps::step_kids-returns-in-Err-clause-tracked : goal.steps::step_kids-returns-in-Err-clause-tracked
-steps::step_kids-returns-in-Err-clause-tracked g t c =
+pub step_kids-returns-in-Err-clause-tracked : goal.step_kids-returns-in-Err-clause-tracked
+step_kids-returns-in-Err-clause-tracked g t c =
     let u : Active = g.O.Order.active c.args.order.now in
     let y = c.args.counts.now in
     let ts = c.args.kids.now in
