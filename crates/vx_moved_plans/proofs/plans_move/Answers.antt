@@ -1,0 +1,8 @@
+use Rattle.vx_moved_plans.proofs.Moving.{plans_move, columns_move}
+use Rattle.vx_moved_plans.proofs.plans_move.Goals as goal
+
+pub returns-clause-plans : goal.returns-clause-plans
+returns-clause-plans c = plans_move
+
+pub returns-clause-columns : goal.returns-clause-columns
+returns-clause-columns c = columns_move
