@@ -6,10 +6,9 @@ use anyhow::Result;
 use bytes::Bytes;
 use std::alloc::{AllocError, Global};
 use std::sync::Arc;
-use vx_layout::{
-    LayoutChildren, Limits, NodeViews, RawNode, Scope, ViewedChildren, layout_children, view_root,
-    write_node,
-};
+use vx_layout_bytes::{Limits, NodeViews, RawNode, view_root, write_node};
+use vx_layout_tree::{LayoutChildren, ViewedChildren, layout_children};
+use vx_session::Scope;
 
 pub fn children_in(alloc: Global, text: &str) -> Result<LayoutChildren> {
     match text.strip_prefix("nodes ") {

@@ -3,7 +3,7 @@
 use anyhow::Result;
 use std::alloc::{AllocError, Global};
 use vx_case_lines::number;
-use vx_layout::{FlatLayout, Layout};
+use vx_layout_tree::{FlatLayout, Layout};
 use vx_model::{ArrayContext, Blob, DType, EncodingId, Nullability, PType, SegmentId};
 
 pub const NUMBERS: DType = DType::Primitive(PType::U8, Nullability::NonNullable);

@@ -3,8 +3,10 @@
 use crate::given::{encodings, push};
 use anyhow::{Context, Result, bail};
 use std::alloc::{AllocError, Global};
-use vx_layout::{LayoutBuildContext, LayoutContext, LayoutEncoding, LayoutSession, Scope, Session};
 use vx_model::{ArrayContext, Text};
+use vx_session::{
+    LayoutBuildContext, LayoutContext, LayoutEncoding, LayoutSession, Scope, Session,
+};
 
 const IDS: &str =
     "vortex.flat vortex.chunked vortex.struct vortex.list vortex.dict vortex.zoned vortex.stats";

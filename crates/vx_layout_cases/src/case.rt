@@ -1,7 +1,7 @@
 //! A case and its answer.
 
 use crate::answers::{tell_alone, tell_layout};
-use crate::layouts::layout;
+use crate::parts::layout;
 use std::alloc::{AllocError, Global};
 use std::thread::Threads;
 use vx_case_lines::{Answer, cut, is_case};

@@ -58,7 +58,6 @@
 mod answers;
 mod case;
 mod children;
-mod layouts;
 mod opened;
 mod own;
 mod parts;

@@ -1,13 +1,20 @@
-//! Layouts that kinds build of parts.
+//! The layout that a case names, and layouts that kinds build of parts.
 
 use anyhow::Result;
 use std::alloc::Global;
-use vx_case_layouts::{build_context, bytes_in, children_in, dtype_in, kind_in};
+use vx_case_layouts::{build_context, bytes_in, children_in, dtype_in, kind_in, layout_in};
 use vx_case_lines::{cut, number};
 use vx_layout::{Layout, LayoutDeserializeArgs, LayoutEncodingExt, LayoutError, LayoutParts};
 
+pub(crate) fn layout(alloc: Global, text: &str) -> Result<Layout> {
+    match cut(text) {
+        ("build", rest) => built(alloc, rest),
+        _ => layout_in(alloc, text),
+    }
+}
+
 /// The layout that the kind builds of the metadata and the parts.
-pub(crate) fn built(alloc: Global, args: &str) -> Result<Layout> {
+fn built(alloc: Global, args: &str) -> Result<Layout> {
     let (kind, rest) = cut(args);
     let (metadata, rest) = cut(rest);
     let kind = kind_in(alloc, kind)?;

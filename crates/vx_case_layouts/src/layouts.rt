@@ -1,27 +1,26 @@
-//! The layout that a case names.
+//! Layouts that constructors make.
 
 ghost use Rattle.std.specs.Prelude.{◌≤◌, length, IsTrue, IfOk};
 ghost use Rattle.vx_metadata.specs.Values.{are_in_order};
 
-use crate::parts::built;
+use crate::children::children_in;
+use crate::given::{NUMBERS, TEXTS, dtype_in, encodings, leaf, leaf_with, leaves, place, push};
 use anyhow::{Result, bail};
 use bytes::Bytes;
 use std::alloc::{AllocError, Global};
 use std::num::NonZeroU32;
-use vx_case_layouts::{
-    NUMBERS, TEXTS, children_in, dtype_in, encodings, leaf, leaf_with, leaves, place, push,
-};
+use vx_aggregate::{AggregateFn, Stat, aggregate_stats_table_dtype, legacy_stats_table_dtype};
 use vx_case_lines::{cut, number};
-use vx_layout::{
-    AggregateFn, ChunkedLayout, DictLayout, FlatLayout, ForeignLayout, Layout, LegacyStatsLayout,
-    ListLayout, Stat, StructLayout, ZonedLayout, aggregate_stats_table_dtype, are_in_order,
-    legacy_stats_table_dtype,
+use vx_layout_tree::{
+    ChunkedLayout, DictLayout, FlatLayout, ForeignLayout, Layout, LegacyStatsLayout, ListLayout,
+    StructLayout, ZonedLayout,
 };
+use vx_metadata::are_in_order;
 use vx_model::{DType, Nullability, StructField, StructFields, Text};
 
-pub(crate) fn layout(alloc: Global, text: &str) -> Result<Layout> {
+/// The layout that constructors make by these words.
+pub fn layout_in(alloc: Global, text: &str) -> Result<Layout> {
     match cut(text) {
-        ("build", rest) => built(alloc, rest),
         ("foreign", rest) => foreign(alloc, rest),
         (kind, rest) => of_kind(alloc, kind, rest),
     }
