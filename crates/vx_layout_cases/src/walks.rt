@@ -37,15 +37,18 @@ fn push_ids<'a, I: Iterator<Item = Result<LayoutChild<'a>, AllocError>>>(
     requires can { I.can_next nodes }
     requires ends { IsFinite (I.remaining nodes) }
 {
-    let mut space = "";
+    let mut later = false;
     for node in nodes {
-        answer.push_str(space);
-        push_id(answer, node);
-        space = " ";
+        push_id(answer, node, later);
+        later = true;
     }
 }
 
-fn push_id(answer: &mut Answer, node: Result<LayoutChild<'_>, AllocError>) {
+/// The id, behind a space where others stand before it.
+fn push_id(answer: &mut Answer, node: Result<LayoutChild<'_>, AllocError>, later: bool) {
+    if later {
+        answer.push_str(" ");
+    }
     match node {
         Ok(node) => {
             answer.push_str(node.layout().encoding_id());

@@ -6,6 +6,7 @@ ghost use Rattle.vx_model.specs.ChunkData.{piece_type};
 ghost use Rattle.vx_aggregate.specs.Tables.{legacy_table};
 
 use anyhow::Context;
+use serde_json::Value as Json;
 use std::alloc::Global;
 use vx_aggregate::{AggregateFn, Stat, legacy_stats_table_dtype};
 use vx_case_lines::Answer;
@@ -13,7 +14,7 @@ use vx_case_objects::{Case, push_values, stats_of};
 use vx_chunk::{Chunk, ChunkError};
 use vx_chunk_json::read_chunk;
 use vx_file_stats::legacy_stats_to_aggregates;
-use vx_model::Value;
+use vx_model::{DType, Value};
 
 /// The aggregates, and a line a zone.
 pub(crate) fn tell(alloc: Global, answer: &mut Answer, case: Case) {
@@ -27,7 +28,7 @@ pub(crate) fn tell(alloc: Global, answer: &mut Answer, case: Case) {
 }
 
 fn tell_of(alloc: Global, answer: &mut Answer, case: Case, stats: &[Stat]) {
-    match table_in(alloc, case, stats) {
+    match table_in(alloc, case.object, case.dtype, stats) {
         Ok(table) => {
             let read = legacy_stats_to_aggregates(alloc, case.dtype, &table, stats);
             drop(table);
@@ -37,11 +38,12 @@ fn tell_of(alloc: Global, answer: &mut Answer, case: Case, stats: &[Stat]) {
     }
 }
 
-fn table_in(alloc: Global, case: Case, stats: &[Stat]) -> anyhow::Result<Chunk>
-    ensures { IfOk result (λ c. piece_type c ≡ legacy_table (ty case.dtype.now) stats.now) }
+/// The table that the object says, of these statistics on the type.
+fn table_in(alloc: Global, object: &Json, column: &DType, stats: &[Stat]) -> anyhow::Result<Chunk>
+    ensures { IfOk result (λ c. piece_type c ≡ legacy_table (ty column.now) stats.now) }
 {
-    let value = case.object.get("table").context("no table")?;
-    let dtype = legacy_stats_table_dtype(alloc, case.dtype, stats)?;
+    let value = object.get("table").context("no table")?;
+    let dtype = legacy_stats_table_dtype(alloc, column, stats)?;
     let table = read_chunk(alloc, &dtype, value);
     drop(dtype);
     Ok(table?)

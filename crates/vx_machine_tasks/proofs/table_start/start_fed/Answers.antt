@@ -30,7 +30,7 @@ use Rattle.vx_machine_tasks.proofs.table_start.start_fed.Goals as goal
 pub start_task-requires : goal.start_task-requires
 start_task-requires g c =
     let u : Active = g.O.Order.active c.args.order.now in
-    fed_pointer u u u (end_stock c.args.eof) (item_stock c.args.item) c.args.kids.now.items c.requires.owned
+    record { owned = fed_pointer u u u (end_stock c.args.eof) (item_stock c.args.item) c.args.kids.now.items c.requires.owned }
 
 pub fed-requires-clause-owned : goal.fed-requires-clause-owned
 fed-requires-clause-owned g c =
