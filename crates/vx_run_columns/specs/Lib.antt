@@ -1,0 +1,2 @@
+pub mod BesideText
+pub mod BesideAnswers
