@@ -99,13 +99,25 @@ fn pushed(
     ensures fits { OnOk result (first_past (weights size (chunks_in kept.items) chunk) ≡ None) }
     ensures refused { IfErr result (Refuses (first_past (weights size (chunks_in kept.items) chunk))) }
 {
-    let bytes = chunk.nbytes()?;
-    let total = total_with(total, bytes)?;
-    kept.push_back(Kept { chunk, bytes })?;
-    if total < size.saturating_mul(2) {
-        return Ok((Vec::new(alloc), kept, total));
+    match chunk.nbytes() {
+        Ok(bytes) => match total_with(total, bytes) {
+            Ok(total) => {
+                kept.push_back(Kept { chunk, bytes })?;
+                if total < size.saturating_mul(2) {
+                    return Ok((Vec::new(alloc), kept, total));
+                }
+                Ok(flush(alloc, kept, total, size)?)
+            }
+            Err(error) => {
+                drop(chunk);
+                Err(error)
+            }
+        },
+        Err(error) => {
+            drop(chunk);
+            Err(error)
+        }
     }
-    Ok(flush(alloc, kept, total, size)?)
 }
 
 /// The sum, where it fits 64 bits.
@@ -147,15 +159,26 @@ fn flush(
 }
 
 /// The chunks that are held, and the last.
-#[tactic(auto, using(crate::proofs::FlushSteps::all_rules))]
 fn all_of(alloc: Global, kept: VecDeque<Kept>, last: Chunk) -> Result<Vec<Chunk>, AllocError>
     ensures { IfOk result (λ v. v.items ≡ chunks_in kept.items ++ last ∷ []) }
+{
+    let Ok(mut chunks) = chunks_of(alloc, kept) else {
+        drop(last);
+        return Err(AllocError);
+    };
+    chunks.push(last)?;
+    Ok(chunks)
+}
+
+/// The chunks that are held.
+#[tactic(auto, using(crate::proofs::FlushSteps::all_rules))]
+fn chunks_of(alloc: Global, kept: VecDeque<Kept>) -> Result<Vec<Chunk>, AllocError>
+    ensures { IfOk result (λ v. v.items ≡ chunks_in kept.items) }
 {
     let kept = Vec::from(kept);
     let mut chunks = Vec::with_capacity(alloc, kept.len())?;
     for one in kept {
         chunks.push(one.chunk)?;
     }
-    chunks.push(last)?;
     Ok(chunks)
 }
