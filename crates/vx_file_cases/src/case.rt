@@ -1,28 +1,28 @@
 //! A case and its answer.
 
 use crate::{columns, counting, fails, reading, spelling};
-use anyhow::{Context, bail};
 use std::alloc::Global;
-use vx_case_lines::{cut, is_case};
+use vx_case_lines::{Answer, Cases, cut};
 
-/// The line of the answer; nothing where the line is no case.
-pub(crate) fn answer(alloc: Global, line: &str) -> anyhow::Result<String> {
-    if !is_case(line) {
-        return Ok(String::new(alloc));
+pub(crate) struct FileCases;
+
+impl Cases for FileCases {
+    fn tell(alloc: Global, answer: &mut Answer, name: &str, rest: &str) {
+        let (word, given) = cut(rest);
+        write!(answer, "{name}: ");
+        tell_word(alloc, answer, word, given);
+        answer.push_str("\n");
     }
-    let (name, rest) = cut(line);
-    let (word, given) = cut(rest);
-    let text = answer_to(alloc, word, given).context(format_args!("in the line {line}"))?;
-    Ok(format!(in alloc; "{name}: {text}\n")?)
 }
 
-fn answer_to(alloc: Global, word: &str, given: &str) -> anyhow::Result<String> {
+fn tell_word(alloc: Global, answer: &mut Answer, word: &str, given: &str) {
     match word {
-        "rows" | "read" | "parsed" => reading::told(alloc, word, given),
-        "columns" => columns::told(alloc, given),
-        "spelled" => spelling::spelled(alloc, given),
-        "fails" => fails::told(alloc, given),
-        "counted" => counting::told(alloc, given),
-        _ => bail!("no word {word}"),
+        "rows" => reading::tell_rows(alloc, answer, given),
+        "read" => reading::tell_read(alloc, answer, given),
+        "columns" => columns::tell(alloc, answer, given),
+        "spelled" => spelling::tell(alloc, answer, given),
+        "fails" => fails::tell(alloc, answer, given),
+        "counted" => counting::tell(alloc, answer, given),
+        _ => answer.push_str("no such word"),
     }
 }

@@ -1,31 +1,32 @@
 //! How many columns a strategy writes side by side.
 
 use crate::given::{dtype, strategy};
-use std::alloc::{AllocError, Global};
-use vx_case_lines::parts;
+use anyhow::Result;
+use std::alloc::Global;
+use vx_case_lines::{Answer, halves};
 use vx_model::DType;
+use vx_strategy::Strategy;
 use vx_write::column_count;
 
-fn count_at(alloc: Global, by: &str, dtype: &DType) -> anyhow::Result<Option<u64>> {
-    let strategy = strategy(alloc, by)?;
-    Ok(column_count(&strategy, dtype))
-}
-
-fn count_in(alloc: Global, by: &str, of: &str) -> anyhow::Result<Option<u64>> {
-    let dtype = dtype(alloc, of)?;
-    count_at(alloc, by, &dtype)
-}
-
-/// The number, or `none`.
-fn shown(alloc: Global, count: Option<u64>) -> Result<String, AllocError> {
-    match count {
-        Some(count) => format!(in alloc; "{count}"),
-        None => String::from_str(alloc, "none"),
+pub(crate) fn tell(alloc: Global, answer: &mut Answer, given: &str) {
+    let (by, of) = halves(given);
+    match strategy(alloc, by) {
+        Ok(by) => tell_at(answer, &by, dtype(alloc, of)),
+        Err(error) => answer.push(error),
     }
 }
 
-pub(crate) fn told(alloc: Global, given: &str) -> anyhow::Result<String> {
-    let (by, of) = parts(given)?;
-    let count = count_in(alloc, by, of)?;
-    Ok(shown(alloc, count)?)
+fn tell_at(answer: &mut Answer, by: &Strategy, dtype: Result<Box<DType>>) {
+    match dtype {
+        Ok(dtype) => push_count(answer, column_count(by, &dtype)),
+        Err(error) => answer.push(error),
+    }
+}
+
+/// The number, or `none`.
+fn push_count(answer: &mut Answer, count: Option<u64>) {
+    match count {
+        Some(count) => answer.push(count),
+        None => answer.push_str("none"),
+    }
 }

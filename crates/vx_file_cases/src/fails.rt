@@ -1,43 +1,49 @@
 //! Writes from and to these objects, one of which fails in mid-stream.
 
-use crate::given::{INTEGERS, integers};
+use crate::given::{INTEGERS, batches};
 use crate::own_objects::{Broken, Counter, Fault, Stack};
 use crate::written::write;
-use std::alloc::{AllocError, Global};
-use vx_case_lines::{boxed, cut};
+use std::alloc::Global;
+use vx_case_lines::{Answer, boxed, cut, number};
 
 /// A source of the batches 2 and 1, of which the call after so many fails.
-fn source(alloc: Global, calls_before: u64) -> anyhow::Result<Stack> {
-    let batches = integers(alloc, "[1] / [2]")?;
-    Ok(Stack {
+fn source(alloc: Global, calls_before: u64) -> anyhow::Result<Box<Stack>> {
+    let batches = batches(alloc, "\"i64\"", "[1] / [2]")?;
+    let stack = Stack {
         dtype: INTEGERS,
         batches,
         fault: Fault::after(calls_before),
-    })
+    };
+    Ok(boxed(alloc, stack)?)
 }
 
 /// How the write to the sink ends.
-fn ending(alloc: Global, source: &mut Stack, sink: &mut Counter) -> Result<String, AllocError> {
+fn push_ending(alloc: Global, answer: &mut Answer, source: &mut Stack, sink: &mut Counter) {
     match write(alloc, source, sink, &mut Broken { faults: 0 }) {
-        Ok(_) => String::from_str(alloc, "Ok"),
-        Err(refusal) => format!(in alloc; "{refusal}"),
+        Ok(layout) => {
+            drop(layout);
+            answer.push_str("Ok");
+        }
+        Err(error) => answer.push(error),
     }
 }
 
-fn ended(alloc: Global, source: &mut Stack, mut sink: Counter) -> Result<String, AllocError> {
-    let ending = ending(alloc, source, &mut sink)?;
+fn push_ended(alloc: Global, answer: &mut Answer, source: &mut Stack, mut sink: Counter) {
+    push_ending(alloc, answer, source, &mut sink);
     let left = source.batches.len();
-    format!(in alloc; "{ending}, {} segments, {left} batches left", sink.next)
+    write!(answer, ", {} segments, {left} batches left", sink.next);
 }
 
-pub(crate) fn told(alloc: Global, given: &str) -> anyhow::Result<String> {
+pub(crate) fn tell(alloc: Global, answer: &mut Answer, given: &str) {
     let (which, call) = cut(given);
-    let call = call.parse::<u64>()?;
+    let call = number(call);
     let (of_source, of_sink) = if which == "source" {
         (call, u64::MAX)
     } else {
         (u64::MAX, call)
     };
-    let mut source = boxed(alloc, source(alloc, of_source)?)?;
-    Ok(ended(alloc, &mut source, Counter::new(of_sink))?)
+    match source(alloc, of_source) {
+        Ok(mut source) => push_ended(alloc, answer, &mut source, Counter::new(of_sink)),
+        Err(error) => answer.push(error),
+    }
 }

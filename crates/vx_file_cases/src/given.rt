@@ -2,10 +2,11 @@
 
 use serde_json::Value;
 use std::alloc::{AllocError, Global};
-use vx_case_lines::boxed;
+use vx_case_lines::{boxed, halves};
 use vx_chunk_json::{read_batch, read_type};
 use vx_model::{ArrayContext, DType, EncodingId, Nullability, PType};
 use vx_read::SegmentMap;
+use vx_sink::ListSource;
 use vx_strategy::Strategy;
 use vx_strategy_json::read_strategy;
 use vx_types::{Blob, Chunk, encode_segment};
@@ -33,11 +34,11 @@ pub(crate) fn chunk_of(alloc: Global, of: &str, json: &str) -> anyhow::Result<Ch
     chunk(alloc, &dtype, json)
 }
 
-/// A batch of integers for each part.
-pub(crate) fn integers(alloc: Global, text: &str) -> anyhow::Result<Vec<Chunk>> {
+/// A batch of the type for each part.
+pub(crate) fn batches(alloc: Global, of: &str, text: &str) -> anyhow::Result<Vec<Chunk>> {
     let mut batches = Vec::new(alloc);
     for json in text.split(" / ") {
-        push(&mut batches, chunk_of(alloc, "\"i64\"", json)?)?;
+        push(&mut batches, chunk_of(alloc, of, json)?)?;
     }
     Ok(batches)
 }
@@ -45,6 +46,27 @@ pub(crate) fn integers(alloc: Global, text: &str) -> anyhow::Result<Vec<Chunk>> 
 fn push(batches: &mut Vec<Chunk>, batch: Chunk) -> Result<(), AllocError> {
     batches.push(batch)?;
     Ok(())
+}
+
+/// A source of batches of a type, which is the first part; it fails at these calls.
+pub(crate) fn source(
+    alloc: Global,
+    given: &str,
+    fail: Vec<u64>,
+) -> anyhow::Result<Box<ListSource>> {
+    let (of, texts) = halves(given);
+    let batches = batches(alloc, of, texts)?;
+    source_of(alloc, of, batches, fail)
+}
+
+fn source_of(
+    alloc: Global,
+    of: &str,
+    batches: Vec<Chunk>,
+    fail: Vec<u64>,
+) -> anyhow::Result<Box<ListSource>> {
+    let dtype = Box::into_inner(dtype(alloc, of)?);
+    Ok(boxed(alloc, ListSource::new(dtype, batches, fail))?)
 }
 
 pub(crate) fn strategy(alloc: Global, json: &str) -> anyhow::Result<Box<Strategy>> {

@@ -1,137 +1,109 @@
-//! What is read of layouts, and why there is nothing.
+//! What is read of flat layouts, and why there is nothing.
 
 use crate::given::{alone, chunk_of, context, dtype, encoded};
-use crate::spelling::parsed;
-use crate::written::segments_of;
-use anyhow::{Context, bail};
-use std::alloc::Global;
-use vx_case_lines::{boxed, parts};
+use anyhow::Result;
+use std::alloc::{AllocError, Global};
+use vx_case_lines::{Answer, boxed, halves, number};
 use vx_layout_tree::{FlatLayout, Layout};
 use vx_model::Value;
-use vx_read::{ReadError, SegmentMap, read_rows};
+use vx_read::{SegmentMap, read_rows};
 use vx_report::report;
-use vx_types::SegmentId;
-
-/// The batch as a segment.
-fn segment(alloc: Global, of: &str, batch: &str) -> anyhow::Result<Vec<u8>> {
-    let chunk = boxed(alloc, chunk_of(alloc, of, batch)?)?;
-    encoded(alloc, &chunk)
-}
-
-/// The batch's segment, as the segment 0.
-fn batch_segment(alloc: Global, given: &str) -> anyhow::Result<SegmentMap> {
-    let (of, batch) = parts(given)?;
-    let bytes = segment(alloc, of, batch)?;
-    Ok(alone(alloc, 0, bytes)?)
-}
+use vx_types::{Chunk, SegmentId};
 
 /// The segment of 1 and 2 with these bytes behind it, as the segment 3.
-fn segment_and(alloc: Global, behind: &str) -> anyhow::Result<SegmentMap> {
+fn segment_and(alloc: Global, behind: &str) -> Result<SegmentMap> {
     let behind = if behind == "-" { "" } else { behind };
     let mut behind = hex::decode(alloc, behind)?;
-    let mut bytes = segment(alloc, "\"i64\"", "[1, 2]")?;
+    let mut bytes = encoded(alloc, &*two(alloc)?)?;
     bytes.append(&mut behind)?;
     Ok(alone(alloc, 3, bytes)?)
 }
 
-/// This segment with the bytes of the case.
-fn longer_segment(alloc: Global, given: &str) -> anyhow::Result<SegmentMap> {
-    let (_, behind) = given.rsplit_once(" / ").context("no bytes")?;
-    segment_and(alloc, behind)
-}
-
-fn written_segments(alloc: Global, given: &str) -> anyhow::Result<SegmentMap> {
-    let (_, batches) = parts(given)?;
-    segments_of(alloc, batches)
-}
-
-fn segments_in(alloc: Global, word: &str, given: &str) -> anyhow::Result<SegmentMap> {
-    match word {
-        "rows" => batch_segment(alloc, given),
-        "read" => longer_segment(alloc, given),
-        _ => written_segments(alloc, given),
-    }
+/// The batch of the integers 1 and 2.
+fn two(alloc: Global) -> Result<Box<Chunk>> {
+    Ok(boxed(alloc, chunk_of(alloc, "\"i64\"", "[1, 2]")?)?)
 }
 
 /// So many rows of the type in the segment of this number.
-fn laid(alloc: Global, of: &str, rows: u64, number: u32) -> anyhow::Result<Layout> {
+fn laid(alloc: Global, of: &str, rows: u64, number: u32) -> Result<Layout> {
     let ctx = context(alloc)?;
     let dtype = Box::into_inner(dtype(alloc, of)?);
     Ok(Layout::Flat(FlatLayout::new(rows, dtype, SegmentId(number), ctx)))
 }
 
-/// How many rows the batch has.
-fn row_count(alloc: Global, of: &str, batch: &str) -> anyhow::Result<u64> {
-    let chunk = boxed(alloc, chunk_of(alloc, of, batch)?)?;
-    Ok(chunk.len())
-}
-
-/// All rows of the batch, in the segment 0.
-fn batch_layout(alloc: Global, given: &str) -> anyhow::Result<Layout> {
-    let (of, batch) = parts(given)?;
-    let rows = row_count(alloc, of, batch)?;
-    laid(alloc, of, rows, 0)
-}
-
-fn flat_layout(alloc: Global, given: &str) -> anyhow::Result<Layout> {
-    let (of, rest) = parts(given)?;
-    let (rows, rest) = parts(rest)?;
-    let (number, _) = parts(rest)?;
-    laid(alloc, of, rows.parse::<u64>()?, number.parse::<u32>()?)
-}
-
-fn parsed_layout(alloc: Global, given: &str) -> anyhow::Result<Layout> {
-    let (bytes, _) = parts(given)?;
-    parsed(alloc, bytes)
-}
-
-fn layout_in(alloc: Global, word: &str, given: &str) -> anyhow::Result<Layout> {
-    match word {
-        "rows" => batch_layout(alloc, given),
-        "read" => flat_layout(alloc, given),
-        _ => parsed_layout(alloc, given),
-    }
-}
-
 /// The report of the rows of a flat layout, in a line.
 #[tactic(auto, unfolding(vx_layout_tree::specs::LayoutView::layout_data))]
-fn reported(alloc: Global, layout: &Layout, rows: &[Value]) -> anyhow::Result<String> {
+fn reported(alloc: Global, layout: &Layout, rows: &[Value]) -> Result<String, AllocError> {
     match layout {
         Layout::Flat(_) => {
             let text = report(alloc, 0, layout, &[], &[], &[], rows)?;
-            Ok(text.replace(alloc, "\n", "|")?)
+            text.replace(alloc, "\n", "|")
         }
-        _ => bail!("no flat layout"),
+        _ => String::from_str(alloc, "no flat layout"),
     }
 }
 
-fn shown(alloc: Global, word: &str, layout: &Layout, rows: &[Value]) -> anyhow::Result<String> {
-    match word {
-        "rows" => reported(alloc, layout, rows),
-        "read" => Ok(format!(in alloc; "{} rows", rows.len())?),
-        _ => Ok(format!(in alloc; "{rows:?}")?),
-    }
-}
-
-fn read(
-    alloc: Global,
-    word: &str,
-    layout: &Layout,
-    segments: &SegmentMap,
-) -> anyhow::Result<String> {
+fn push_rows(alloc: Global, answer: &mut Answer, layout: &Layout, segments: &SegmentMap) {
     match read_rows(alloc, layout, segments) {
-        Ok(rows) => shown(alloc, word, layout, &rows),
-        Err(error) => fault(alloc, boxed(alloc, error)?),
+        Ok(rows) => answer.push_given(reported(alloc, layout, &rows)),
+        Err(error) => answer.push_debug(error),
     }
 }
 
-fn fault(alloc: Global, error: Box<ReadError>) -> anyhow::Result<String> {
-    Ok(format!(in alloc; "{:?}", *error)?)
+fn push_count(alloc: Global, answer: &mut Answer, layout: &Layout, segments: &SegmentMap) {
+    match read_rows(alloc, layout, segments) {
+        Ok(rows) => write!(answer, "{} rows", rows.len()),
+        Err(error) => answer.push_debug(error),
+    }
 }
 
-/// What the word asks of the rows that are read, or why there are none.
-pub(crate) fn told(alloc: Global, word: &str, given: &str) -> anyhow::Result<String> {
-    let segments = segments_in(alloc, word, given)?;
-    let layout = boxed(alloc, layout_in(alloc, word, given)?)?;
-    read(alloc, word, &layout, &segments)
+/// The rows of the batch's segment, as the segment 0.
+fn tell_batch(alloc: Global, answer: &mut Answer, of: &str, batch: &Chunk) -> Result<()> {
+    let bytes = encoded(alloc, batch)?;
+    let segments = alone(alloc, 0, bytes)?;
+    let layout = boxed(alloc, laid(alloc, of, batch.len(), 0)?)?;
+    push_rows(alloc, answer, &layout, &segments);
+    Ok(())
+}
+
+/// The rows that are read from a batch's segment.
+pub(crate) fn tell_rows(alloc: Global, answer: &mut Answer, given: &str) {
+    let (of, batch) = halves(given);
+    match chunk_of(alloc, of, batch) {
+        Ok(batch) => {
+            if let Err(error) = tell_batch(alloc, answer, of, &batch) {
+                answer.push(error);
+            }
+        }
+        Err(error) => answer.push(error),
+    }
+}
+
+fn tell_laid(
+    alloc: Global,
+    answer: &mut Answer,
+    layout: Result<Layout>,
+    segments: &SegmentMap,
+) {
+    match layout {
+        Ok(layout) => {
+            push_count(alloc, answer, &layout, segments);
+            drop(layout);
+        }
+        Err(error) => answer.push(error),
+    }
+}
+
+/// How many rows are read of the type in the segment of this number.
+pub(crate) fn tell_read(alloc: Global, answer: &mut Answer, given: &str) {
+    let (of, rest) = halves(given);
+    let (rows, rest) = halves(rest);
+    let (place, behind) = halves(rest);
+    match segment_and(alloc, behind) {
+        Ok(segments) => {
+            let layout = laid(alloc, of, number(rows), place.parse::<u32>().unwrap_or(0));
+            tell_laid(alloc, answer, layout, &segments);
+        }
+        Err(error) => answer.push(error),
+    }
 }

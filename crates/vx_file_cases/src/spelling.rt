@@ -1,65 +1,63 @@
 //! Layouts as bytes.
 
-use crate::given::{INTEGERS, context};
-use crate::written::layout_of;
-use anyhow::ensure;
-use bytes::Bytes;
+use crate::written::layout_by;
+use crate::given::{source, strategy};
+use anyhow::{Result, ensure};
 use std::alloc::{AllocError, Global};
-use vx_case_lines::boxed;
-use vx_layout_bytes::Limits;
-use vx_layout_codec::{layout_bytes, layout_from_flatbuffer};
+use vx_case_lines::{Answer, halves};
+use vx_layout_codec::layout_bytes;
 use vx_layout_tree::Layout;
 use vx_model::Text;
-use vx_session::{LayoutContext, LayoutSession, Session};
+use vx_session::LayoutContext;
 
-/// The ids of the two kinds.
-fn ids(alloc: Global) -> anyhow::Result<LayoutContext> {
-    let chunked = Text::from_str(alloc, "vortex.chunked")?;
-    let ids = vec![in alloc; chunked, Text::from_str(alloc, "vortex.flat")?]?;
-    ensure!(LayoutContext::is_context(alloc, &ids)?, "no context");
+fn texts(alloc: Global, words: &str) -> Result<Vec<Text>, AllocError> {
+    let mut texts = Vec::new(alloc);
+    for word in words.split_whitespace() {
+        texts.push(Text::from_str(alloc, word)?)?;
+    }
+    Ok(texts)
+}
+
+fn context(alloc: Global, words: &str) -> Result<LayoutContext> {
+    let ids = texts(alloc, words)?;
+    ensure!(
+        LayoutContext::is_context(alloc, &ids)?,
+        "an id is there twice"
+    );
     Ok(LayoutContext::new(ids))
 }
 
-/// All kinds, and no aggregates.
-fn session(alloc: Global) -> Result<Session, AllocError> {
-    Ok(Session {
-        layouts: LayoutSession::default(alloc)?,
-        aggregates: Vec::new(alloc),
-        allow_unknown: false,
-    })
+/// The layout that batches are written as by a strategy, which is the first part.
+fn layout_of(alloc: Global, given: &str) -> Result<Box<Layout>> {
+    let (by, rest) = halves(given);
+    let by = strategy(alloc, by)?;
+    let mut source = source(alloc, rest, Vec::new(alloc))?;
+    layout_by(alloc, &by, &mut source)
 }
 
-fn parsed_in(
+pub(crate) fn tell(alloc: Global, answer: &mut Answer, given: &str) {
+    let (words, given) = halves(given);
+    match context(alloc, words) {
+        Ok(ids) => tell_bytes(alloc, answer, &ids, layout_of(alloc, given)),
+        Err(error) => answer.push(error),
+    }
+}
+
+fn tell_bytes(
     alloc: Global,
-    bytes: Bytes,
+    answer: &mut Answer,
     ids: &LayoutContext,
-    session: &Session,
-) -> anyhow::Result<Layout> {
-    let ctx = context(alloc)?;
-    let dtype = boxed(alloc, INTEGERS)?;
-    let limits = Limits::default();
-    Ok(layout_from_flatbuffer(alloc, bytes, &dtype, ids, &ctx, session, limits)?)
+    layout: Result<Box<Layout>>,
+) {
+    match layout {
+        Ok(layout) => push_bytes(alloc, answer, ids, &layout),
+        Err(error) => answer.push(error),
+    }
 }
 
-/// The layout that the bytes are.
-pub(crate) fn parsed(alloc: Global, text: &str) -> anyhow::Result<Layout> {
-    let bytes = Bytes::from_vec(hex::decode(alloc, text)?)?;
-    let ids = ids(alloc)?;
-    let session = boxed(alloc, session(alloc)?)?;
-    parsed_in(alloc, bytes, &ids, &session)
-}
-
-fn bytes_of(alloc: Global, layout: &Layout) -> anyhow::Result<Vec<u8>> {
-    let ids = ids(alloc)?;
-    Ok(layout_bytes(alloc, layout, &ids)?)
-}
-
-fn bytes_written(alloc: Global, batches: &str) -> anyhow::Result<Vec<u8>> {
-    let layout = layout_of(alloc, batches)?;
-    bytes_of(alloc, &layout)
-}
-
-pub(crate) fn spelled(alloc: Global, given: &str) -> anyhow::Result<String> {
-    let bytes = bytes_written(alloc, given)?;
-    Ok(hex::encode(alloc, &bytes)?)
+fn push_bytes(alloc: Global, answer: &mut Answer, ids: &LayoutContext, layout: &Layout) {
+    match layout_bytes(alloc, layout, ids) {
+        Ok(bytes) => answer.push_given(hex::encode(alloc, &bytes)),
+        Err(error) => answer.push(error),
+    }
 }

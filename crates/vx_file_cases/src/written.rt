@@ -1,16 +1,15 @@
-//! What is written: layouts, and their segments.
+//! What is written.
 
-use crate::given::{INTEGERS, context, integers, strategy};
+use crate::given::{context, strategy};
 use anyhow::Error;
 use std::alloc::Global;
 use vx_case_lines::boxed;
 use vx_layout_tree::Layout;
-use vx_read::SegmentMap;
 use vx_sink::{
-    BatchSource, CompressorPlugin, LayoutWriterContext, ListSource, MemorySink, PlainCompressor,
-    SegmentSink,
+    BatchSource, CompressorPlugin, LayoutWriterContext, ListSource, MemorySink, SegmentSink,
 };
 use vx_strategy::Strategy;
+use vx_table_compressor::TableCompressor;
 use vx_write::{Refused, WriteError, write_stream};
 
 /// Chunks of flat layouts.
@@ -54,24 +53,14 @@ pub(crate) fn write<B: BatchSource, S: SegmentSink, C: CompressorPlugin>(
     write_by(alloc, &by, &mut ctx, source, sink, compressor)
 }
 
-/// Writes the batches to the sink.
-fn written(alloc: Global, batches: &str, sink: &mut MemorySink) -> anyhow::Result<Box<Layout>> {
-    let batches = integers(alloc, batches)?;
-    let mut source = boxed(alloc, ListSource::new(INTEGERS, batches, Vec::new(alloc)))?;
-    let mut compressor = PlainCompressor::new(Vec::new(alloc));
-    write(alloc, &mut *source, sink, &mut compressor)
-}
-
-/// The layout that the batches are written as.
-pub(crate) fn layout_of(alloc: Global, batches: &str) -> anyhow::Result<Box<Layout>> {
+/// The layout that the source's batches are written as.
+pub(crate) fn layout_by(
+    alloc: Global,
+    by: &Strategy,
+    source: &mut ListSource,
+) -> anyhow::Result<Box<Layout>> {
+    let mut ctx = LayoutWriterContext::new(context(alloc)?);
     let mut sink = MemorySink::new(0, Vec::new(alloc));
-    written(alloc, batches, &mut sink)
-}
-
-/// The segments that the batches are written to.
-pub(crate) fn segments_of(alloc: Global, batches: &str) -> anyhow::Result<SegmentMap> {
-    let mut sink = MemorySink::new(0, Vec::new(alloc));
-    written(alloc, batches, &mut sink)?;
-    let list = sink.into_segments();
-    Ok(SegmentMap { first: 0, list })
+    let mut compressor = TableCompressor::new(Vec::new(alloc));
+    write_by(alloc, by, &mut ctx, source, &mut sink, &mut compressor)
 }
