@@ -1,0 +1,3 @@
+pub mod CellCode
+pub mod Typed
+pub mod StringCells

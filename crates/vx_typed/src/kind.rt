@@ -1,0 +1,7 @@
+//! Texts, or bytes.
+
+#[derive(Clone, Copy, Debug)]
+pub enum StringKind {
+    Utf8,
+    Binary,
+}
