@@ -66,6 +66,10 @@ pub are_below_trans : (es : List Entry) (p r : List ℕ) → AreBelow es p → p
 are_below_trans [] p r h l = tt
 are_below_trans (e ∷ es) p r h l = (less_trans e.path p r h.0 l, are_below_trans es p r h.1 l)
 
+pub some_entry : (es : List Entry) (i : ℕ) → i < length es → Entry
+some_entry [] i lt = absurd (omega arith)
+some_entry (x ∷ es) i lt = x
+
 -- Where the entry at i is below a path, so are those before it.
 pub below_up_to : (es : List Entry) (q : List ℕ) (i : ℕ) (d : Entry) → Ascends es → i < length es → path_cmp (get_or es i d).path q ≡ Less → AreBelow (take (suc i) es) q
 below_up_to [] q i d a lt h = absurd (omega arith)
@@ -123,27 +127,22 @@ pub ascends_distinct : (es : List Entry) → Ascends es → AreDistinct (pairs e
 ascends_distinct [] a = tt
 ascends_distinct (e ∷ es) a = (below_free e.path es a.0, ascends_distinct es a.1)
 
--- The entry x at i, whose path was compared, stands to the other path as the answer says.
+-- The path p of the entry at i was compared with q.
+module _ (es : List Entry) (i : ℕ) (p q : List ℕ) (answer : Ordering) (asc : Ascends es) (at : IsAt es p i) (order : answer ≡ path_cmp p q) where
+  stands : (o : Ordering) (d : Entry) → answer ≡ o → path_cmp (get_or es i d).path q ≡ o
+  stands o d same = ap (λ r. path_cmp r q) (at.found d) ∙ sym order ∙ same
 
-same_entry : (es : List Entry) (i : ℕ) (d e : Entry) → i < length es → get_or es i d ≡ get_or es i e
-same_entry [] i d e lt = absurd (omega arith)
-same_entry (x ∷ es) zero d e lt = refl
-same_entry (x ∷ es) (suc i) d e lt = same_entry es i d e (omega arith)
+  any : Entry
+  any = some_entry es i at.within
 
-stands : (x y : Entry) (p q : List ℕ) (answer o : Ordering) → x ≡ y → p ≡ x.path → answer ≡ path_cmp p q → answer ≡ o → path_cmp y.path q ≡ o
-stands x y p q answer o is path order same =
-    ap (λ (z : Entry). path_cmp z.path q) (sym is) ∙ ap (λ r. path_cmp r q) (sym path) ∙ sym order ∙ same
+  pub up_to_below : answer ≡ Less → AreBelow (take (suc i) es) q
+  up_to_below same = below_up_to es q i any asc at.within (stands Less any same)
 
-module _ (es : List Entry) (i : ℕ) (x : Entry) (p q : List ℕ) (answer : Ordering) where
-  pub entry_below : x ≡ get_or es i x → p ≡ x.path → answer ≡ path_cmp p q → answer ≡ Less → path_cmp (get_or es i x).path q ≡ Less
-  entry_below is path order same = stands x (get_or es i x) p q answer Less is path order same
+  pub from_above : answer ≡ Greater → IsBelow q (drop i es)
+  from_above same = below_from_at es q i any asc at.within (turned (get_or es i any).path q (stands Greater any same))
 
-  pub entry_above : x ≡ get_or es i x → p ≡ x.path → answer ≡ path_cmp p q → answer ≡ Greater → path_cmp q (get_or es i x).path ≡ Less
-  entry_above is path order same = turned (get_or es i x).path q (stands x (get_or es i x) p q answer Greater is path order same)
-
-  pub entry_same : i < length es → x ≡ get_or es i x → p ≡ x.path → answer ≡ path_cmp p q → answer ≡ Equal → IsAt es q i
-  entry_same lt is path order same = record {
-    within = lt;
-    found = λ d. ap (λ (e : Entry). e.path) (same_entry es i d x lt)
-        ∙ same_true (get_or es i x).path q (ap is_eq (stands x (get_or es i x) p q answer Equal is path order same));
+  pub same_path : answer ≡ Equal → IsAt es q i
+  same_path same = record {
+    within = at.within;
+    found = λ d. same_true (get_or es i d).path q (ap is_eq (stands Equal d same));
   }

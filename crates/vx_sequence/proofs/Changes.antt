@@ -1,6 +1,5 @@
 -- Each call's edits of the entries are its change of the universe, and keep what the entries keep.
-use Rattle.std.proofs.Common.{◌≡◌, ◌≢◌, ℕ, ◌<◌, Bool, true, false, ◌||◌, List, [], ◌∷◌, length, get_or, set, take, drop, suc, Option, Some, None, is_some, IsSome, OnSome, refl, sym, ap, subst, ◌∙◌, ⊎_elim, arith}
-use Rattle.std.proofs.lemmas.Bool.{true≢false}
+use Rattle.std.proofs.Common.{◌≡◌, ◌≢◌, ℕ, Bool, true, false, ◌||◌, List, [], ◌∷◌, get_or, set, take, drop, suc, Option, Some, None, is_some, refl, sym, ap, subst, ◌∙◌, ⊎_elim}
 use Rattle.std.specs.List.{remove}
 use Rattle.std.specs.declared.cmp.Ordering.TheVariants.{Less}
 use Rattle.std.specs.FinMap as fin
@@ -13,9 +12,9 @@ use Rattle.vx_sequence.specs.Entries.{pairs, active_of, AreBelow, IsBelow, Ascen
 use Rattle.vx_sequence.proofs.Places.{eof_path-place_of, not_true, child_above}
 use Rattle.vx_sequence.proofs.Sets.{one_path, same_active, get-inserted, get-insert_other, get-removed, get-remove_other, is_open_active, is_active_more, active_insert}
 use Rattle.vx_sequence.proofs.Uses.{advanced_active, advanced_next, advanced_id, open_active}
-use Rattle.vx_sequence.proofs.Rules.{only_rules, removed_rules, sibling_free, child_free, advanced_rules, descended_rules}
+use Rattle.vx_sequence.proofs.Rules.{removed_rules, sibling_free, child_free, advanced_rules, descended_rules}
 use Rattle.vx_sequence.proofs.Kept.{get_of}
-use Rattle.vx_sequence.proofs.Ascending.{less_lt, lt_less, are_below_trans, below_from}
+use Rattle.vx_sequence.proofs.Ascending.{less_lt, lt_less, are_below_trans, below_from, some_entry}
 use Rattle.vx_sequence.proofs.Edits.{before_it, behind_it, active-set, ascends-set, active-remove, ascends-remove, in_behind}
 use Rattle.vx_sequence.proofs.Least.{is_active_in}
 
@@ -168,20 +167,6 @@ module _ (es : List Entry) (kept : IsKept es) (p : List ℕ) (i : ℕ) (at : IsA
     rules = subst IsUniverse (sym (active-remove es i d p at.within (at.found d) kept.ascends)) (removed_rules (active_of es) p kept.rules);
   }
 
-pub kept_only : (e : Eof) (m : Entry) → m.path ≡ eof_path e → m.is_open ≡ true → IsKept (m ∷ [])
-kept_only e m mp mo = record {
-  ascends = (tt, tt);
-  rules = subst IsUniverse (λ j. fin.insert fin.empty (sym mp j) (sym mo j)) (only_rules e);
-}
-
-some_entry : (es : List Entry) (i : ℕ) → i < length es → Entry
-some_entry [] i lt = absurd (omega arith)
-some_entry (x ∷ es) i lt = x
-
-on_some : {T : Type 0} (o : Option T) (P : Type 0) → OnSome o P → IsSome o → P
-on_some None P h s = absurd (true≢false (sym s))
-on_some (Some x) P h s = h
-
 -- The same, as the calls meet it: the path comes as a list, the entries ls with the next sibling from `put`.
 module _ (es : List Entry) (kept : IsKept es) (u : Active) (view : active_of es ≡ u) (path : List ℕ) (stem : path ≢ []) (o : IsOpen u path)
     (copy : List ℕ) (is_next : copy ≡ eof_path (next (place_of path))) where
@@ -252,15 +237,11 @@ module _ (es : List Entry) (kept : IsKept es) (u : Active) (view : active_of es 
     shows_descended = active_descended es kept path i at was only_child is_child refl
         ∙ ap (λ w. descended w path) view
 
-  module _ {T : Type 0} (taken : Option T) (list : List Entry) (is : OnSome taken (list ≡ remove es i)) (some : IsSome taken) where
-    any : Entry
-    any = some_entry es i at.within
+  any : Entry
+  any = some_entry es i at.within
 
-    left_list : list ≡ remove es i
-    left_list = on_some taken (list ≡ remove es i) is some
+  pub keeps_released : IsKept (remove es i)
+  keeps_released = kept_released es kept path i at any
 
-    pub keeps_released : IsKept list
-    keeps_released = subst IsKept (sym left_list) (kept_released es kept path i at any)
-
-    pub shows_released : active_of list ≡ released u path
-    shows_released = ap active_of left_list ∙ active-remove es i any path at.within (at.found any) kept.ascends ∙ ap (λ w. released w path) view
+  pub shows_released : active_of (remove es i) ≡ released u path
+  shows_released = active-remove es i any path at.within (at.found any) kept.ascends ∙ ap (λ w. released w path) view

@@ -2,6 +2,7 @@ pub mod Ascending
 pub mod Changes
 pub mod Edits
 pub mod Halves
+pub mod InBlocks
 pub mod Kept
 pub mod Laws
 pub mod Least

@@ -4,14 +4,14 @@ ghost use Rattle.std.specs.FinMap as map;
 ghost use Rattle.vx_path.specs.Path.{under, eof_path, next};
 ghost use Rattle.vx_sequence.specs.Part.{CanPart, left_of, parted};
 
+use crate::blocks::Blocks;
 use crate::comparisons::Steps;
-use crate::entries::{Entry, index_of, put, search};
+use crate::entries::{Entry, search};
 use crate::errors::SequenceError;
 use crate::ids::SequenceId;
 use crate::pointers::SequencePointer;
 use crate::siblings::sibling;
 use std::alloc::AllocError;
-use std::collections::VecDeque;
 use std::marker::Model;
 use std::sync::ledger::Ledger;
 use vx_path::owned::Path;
@@ -21,7 +21,7 @@ use vx_path::owned::Path;
 /// No active path is a prefix of another, and behind an open one nothing is active.
 #[derive(Drop)]
 pub struct Universe {
-    entries: VecDeque<Entry>,
+    entries: Blocks,
 }
 
 impl Model for Universe {
@@ -35,10 +35,11 @@ impl Model for Universe {
     ghost coded = { map.code (coded_list coded_ℕ) coded_bool };
 
     ghost use Rattle.vx_sequence.specs.Entries.{active_of, IsKept};
+    ghost use Rattle.vx_sequence.specs.Blocks.{list_of, AreFilled};
 
-    ghost view = { λ u. active_of u.entries.items };
+    ghost view = { λ u. active_of (list_of u.entries) };
 
-    ghost invariant = { λ u. IsKept u.entries.items };
+    ghost invariant = { λ u. IsKept (list_of u.entries) × AreFilled u.entries };
 }
 
 impl Universe {
@@ -49,7 +50,7 @@ impl Universe {
         ensures least { MatchOption result (self.now ≡ map.empty) (λ p. IsActive self.now p.now × IsLeast self.now p.now) }
         ensures rules { IsUniverse self.now }
     {
-        Some(self.entries.front()?.path.as_slice())
+        Some(self.entries.first()?.path.as_slice())
     }
 
     /// The path's place among the active ones in order, or the place where it would stand. It takes no memory.
@@ -58,7 +59,7 @@ impl Universe {
         ensures err { IfErr result (λ i. ¬ (IsActive self.now path.now) × (i ≡ rank self.now path.now)) }
         ensures cost { 2 ^ (steps.new - steps.old) ≤ 2 * map.len self.now + 1 }
     {
-        match search(&self.entries, path, steps) {
+        match search(&self.entries, self.entries.count(), path, steps) {
             Ok(place) => Ok(place as u64),
             Err(place) => Err(place as u64),
         }
@@ -68,7 +69,7 @@ impl Universe {
     pub fn copy_of(&self, path: &[u64]) -> Result<Path, AllocError>
         ensures { IfOk result (λ p. p ≡ path.now) }
     {
-        Path::from_slice(*self.entries.allocator(), path)
+        Path::from_slice(self.entries.allocator(), path)
     }
 
     /// A universe in which this path alone is active, and open.
@@ -77,8 +78,8 @@ impl Universe {
         ensures ok { IfOk result (λ u. u ≡ only (place_of path.now)) }
         ensures memory { IfErr result (λ e. e ≡ SequenceError.OutOfMemory) }
     {
-        let mut entries = VecDeque::new(path.allocator());
-        entries.push_back(Entry {
+        let mut entries = Blocks::new(path.allocator());
+        entries.put(Entry {
             path: path.clone()?,
             is_open: true,
         })?;
@@ -96,17 +97,14 @@ impl Universe {
         ensures err { OnErr result (self.new ≡ self.old) }
         ensures rules { IsUniverse self.old }
     {
-        let next = sibling(*self.entries.allocator(), path)?;
+        let next = sibling(self.entries.allocator(), path)?;
         let copy = next.clone()?;
-        put(
-            &mut self.entries,
-            Entry {
-                path: copy,
-                is_open: true,
-            },
-        )?;
-        let at = index_of(&self.entries, path);
-        self.entries[at].is_open = false;
+        self.entries.put(Entry {
+            path: copy,
+            is_open: true,
+        })?;
+        let place = self.entries.place_of(path);
+        self.entries.close(place);
         Ok(next)
     }
 
@@ -119,13 +117,16 @@ impl Universe {
         ensures err { OnErr result (self.new ≡ self.old) }
         ensures rules { IsUniverse self.old }
     {
-        let child = Path::child(*self.entries.allocator(), path, 0)?;
+        let child = Path::child(self.entries.allocator(), path, 0)?;
         let copy = child.clone()?;
-        let parent = index_of(&self.entries, path);
-        self.entries[parent] = Entry {
-            path: copy,
-            is_open: true,
-        };
+        let parent = self.entries.place_of(path);
+        self.entries.replace(
+            parent,
+            Entry {
+                path: copy,
+                is_open: true,
+            },
+        );
         Ok(child)
     }
 
@@ -140,23 +141,23 @@ impl Universe {
         ensures err { OnErr result (self.new ≡ self.old) }
         ensures rules { IsUniverse self.old }
     {
-        let alloc = *self.entries.allocator();
+        let alloc = self.entries.allocator();
         let next = sibling(alloc, path)?;
         let child = Path::child(alloc, path, 0)?;
         let next_copy = next.clone()?;
         let child_copy = child.clone()?;
-        put(
-            &mut self.entries,
+        self.entries.put(Entry {
+            path: next_copy,
+            is_open: true,
+        })?;
+        let place = self.entries.place_of(path);
+        self.entries.replace(
+            place,
             Entry {
-                path: next_copy,
+                path: child_copy,
                 is_open: true,
             },
-        )?;
-        let at = index_of(&self.entries, path);
-        self.entries[at] = Entry {
-            path: child_copy,
-            is_open: true,
-        };
+        );
         Ok((child, next))
     }
 
@@ -189,13 +190,13 @@ impl Universe {
         ensures memory { IfErr result (λ e. e ≡ SequenceError.OutOfMemory) }
         ensures rules { IsUniverse self.now }
     {
-        let mut entries = VecDeque::new(*self.entries.allocator());
+        let mut entries = Blocks::new(self.entries.allocator());
         for id in ids {
             let entry = self.entry_of(id.path())?;
-            put(&mut entries, entry)?;
+            entries.put(entry)?;
         }
         let entry = self.entry_of(eof)?;
-        put(&mut entries, entry)?;
+        entries.put(entry)?;
         Ok(Universe { entries })
     }
 
@@ -205,11 +206,11 @@ impl Universe {
         ensures ok { IfOk result (λ e. (e.path ≡ path.now) × (e.is_open ≡ unwrap_or (map.get self.now path.now) false)) }
         ensures memory { IfErr result (λ e. e ≡ SequenceError.OutOfMemory) }
     {
-        let at = index_of(&self.entries, path);
+        let place = self.entries.place_of(path);
         let copy = self.copy_of(path)?;
         Ok(Entry {
             path: copy,
-            is_open: self.entries[at].is_open,
+            is_open: self.entries.entry(place).is_open,
         })
     }
 
@@ -219,7 +220,7 @@ impl Universe {
         ensures active { self.new ≡ released self.old path.now }
         ensures rules { IsUniverse self.old }
     {
-        let at = index_of(&self.entries, path);
-        let _entry = self.entries.remove(at);
+        let place = self.entries.place_of(path);
+        self.entries.remove(place);
     }
 }

@@ -2,6 +2,7 @@
 #![tactic(auto)]
 
 mod active;
+mod blocks;
 mod comparisons;
 mod entries;
 mod errors;

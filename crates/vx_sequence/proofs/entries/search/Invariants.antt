@@ -9,10 +9,10 @@ decreases-loop-low g l = l.high - l.low
 abbrev pub invariant-loop-low : goal.invariant-loop-low
 invariant-loop-low g l = record {
   ordered : l.low ≤ l.high;
-  within : l.high ≤ length l.entries.items;
-  before : AreBelow (take l.low l.entries.items) l.path;
-  behind : IsBelow l.path (drop l.high l.entries.items);
+  within : l.high ≤ length (g.R.Row.entries l.row);
+  before : AreBelow (take l.low (g.R.Row.entries l.row)) l.path;
+  behind : IsBelow l.path (drop l.high (g.R.Row.entries l.row));
   counted : l.initial.steps ≤ l.steps;
-  halved : 2 ^ (l.steps - l.initial.steps) * (l.high - l.low) ≤ length l.entries.items;
-  cost : 2 ^ (l.steps - l.initial.steps) ≤ 2 * length l.entries.items + 1;
+  halved : 2 ^ (l.steps - l.initial.steps) * (l.high - l.low) ≤ length (g.R.Row.entries l.row);
+  cost : 2 ^ (l.steps - l.initial.steps) ≤ 2 * length (g.R.Row.entries l.row) + 1;
 }
