@@ -1,3 +1,13 @@
+pub mod Imaging
+mod OwnJoins
+mod Joined
+mod Refusing
+mod Leading
+mod Tracing
+mod Writing
+mod Stopping
+mod Reading
+mod Answering
 mod WriteSteps
 mod RanSteps
 mod LentSteps

@@ -19,24 +19,24 @@ use Rattle.vx_write_answer.specs.declared.step.Step.{Step}
 use Rattle.vx_write_answer.specs.declared.error.WriteError.{WriteError}
 use Rattle.vx_machine_ids.specs.Stock.{Stock, both, end_stock}
 use Rattle.vx_machine_ids.specs.Balance.{Exact, Moved}
-use Rattle.vx_machine_ran.specs.Images.{images_of}
-use Rattle.vx_machine_ran.specs.Start.{first_indices}
-use Rattle.vx_machine_ran.specs.Machine.{Machine, start}
+use Rattle.vx_machine_state.specs.Images.{images_of}
+use Rattle.vx_machine_state.specs.Start.{first_indices}
+use Rattle.vx_machine_view.specs.Machine.{Machine, start}
 use Rattle.vx_machine.specs.Outcome.{AllFit}
 use Rattle.vx_machine.specs.TaskStarting.{IsAllowed, Counted, FormRefused}
 use Rattle.vx_machine.specs.Starting.{machine_at}
-use Rattle.vx_machine_ran.specs.Valid.{Keeps}
+use Rattle.vx_plan.specs.Valid.{Keeps}
 use Rattle.vx_fault.specs.Faults.{FaultsTold}
 use Rattle.vx_machine.specs.Calls.{reads_in, misfits}
 use Rattle.vx_machine.specs.Context.{Allowed, setting_of}
 use Rattle.vx_machine.specs.Run.{at, RunDone, RunTold}
 use Rattle.vx_machine.proofs.RunCalls.{answer_more}
-use Rattle.vx_machine_ran.specs.Ran.{own_sink}
-use Rattle.vx_machine_ran.proofs.Imaging.{images_keep}
+use Rattle.vx_write.specs.Ran.{own_sink}
+use Rattle.vx_write.proofs.Imaging.{images_keep}
 use Rattle.vx_write_answer.specs.declared.error.WriteError.TheVariants as errors
 use Rattle.vx_write_answer.specs.Causes.{is_source_fault, is_sink_fault, is_compress_fault}
 use Rattle.vx_machine.specs.TaskView.{form_at}
-use Rattle.vx_machine_ran.specs.Answered.{IsStarted, IsOutside, MisfitsAreRead}
+use Rattle.vx_write.specs.Answered.{IsStarted, IsOutside, MisfitsAreRead}
 use Rattle.vx_write.specs.Answer.{StoppedTold, AnsweredTold}
 use Rattle.vx_write.proofs.WriteSteps.{only_held}
 

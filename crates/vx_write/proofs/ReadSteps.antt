@@ -14,12 +14,12 @@ use Rattle.vx_setting.specs.Setting.{RealHashIsSmall}
 use Rattle.vx_prune_laws.specs.Statements.{PruningKeepsRows}
 use Rattle.vx_parse_back_laws.specs.Statements.{WrittenIsParsed, WrittenIsKnown}
 use Rattle.vx_machine.specs.Context.{setting_of}
-use Rattle.vx_machine_ran.specs.Images.{images_of}
-use Rattle.vx_machine_ran.specs.Number.{segments}
-use Rattle.vx_machine_ran.specs.PlanData.{Setting}
-use Rattle.vx_machine_ran.specs.SourcePlan.{source_plan}
-use Rattle.vx_machine_ran.specs.Valid.{Keeps}
-use Rattle.vx_machine_ran.specs.Written.{Planned, Wrote}
+use Rattle.vx_machine_state.specs.Images.{images_of}
+use Rattle.vx_plan.specs.Number.{segments}
+use Rattle.vx_plan.specs.PlanData.{Setting}
+use Rattle.vx_plan.specs.SourcePlan.{source_plan}
+use Rattle.vx_plan.specs.Valid.{Keeps}
+use Rattle.vx_write.specs.Written.{Planned, Wrote}
 use Rattle.vx_write.specs.Readable.{IsReadable}
 
 module _ (prune : PruningKeepsRows) (parse : WrittenIsParsed) (know : WrittenIsKnown) (small : RealHashIsSmall) (ctx : LayoutWriterContext) (image : ℕ → ChunkData → ChunkData) (strategy : Strategy) (t : Ty) (m : Bool)

@@ -9,7 +9,7 @@ use Rattle.vx_sink.specs.declared.context.LayoutWriterContext.{LayoutWriterConte
 use Rattle.vx_sink.specs.ContextView.{listed, allowed_in, is_marked, counted}
 use Rattle.vx_write_answer.specs.declared.error.WriteError.{WriteError}
 use Rattle.vx_machine.specs.Run.{RunTold}
-use Rattle.vx_machine_ran.specs.Answered.{IsStarted, Unstarted, begun, HasRun}
+use Rattle.vx_write.specs.Answered.{IsStarted, Unstarted, begun, HasRun}
 use Rattle.vx_write_answer.specs.declared.step.Step.{Step}
 use Rattle.vx_machine.specs.Calls.{asked_by}
 use Rattle.vx_write.specs.declared.write.Written.{Written}

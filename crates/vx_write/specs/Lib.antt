@@ -1,10 +1,13 @@
+pub mod Ran
+pub mod Traced
+pub mod RefusedAct
+pub mod Tracking
+pub mod Written
+pub mod Runs
+pub mod Answered
 pub mod ColumnCount
 pub mod Lent
 pub mod Answer
-pub use Rattle.vx_machine_ran.specs.RefusedAct
-pub use Rattle.vx_machine_ran.specs.Traced
-pub use Rattle.vx_machine_ran.specs.Tracking
-pub use Rattle.vx_machine_ran.specs.Written
 pub use Rattle.vx_machine.specs.Calls
 pub use Rattle.vx_machine.specs.Context
 pub mod Readable

@@ -3,7 +3,7 @@
 ghost use Rattle.std.specs.Prelude.{◌≡◌, ◌+◌, ◌≤◌, ◌^◌, max, List, ℕ, [], Some, IfOk, IfErr, OnOk};
 ghost use Rattle.vx_model.specs.ChunkData.{ChunkData};
 ghost use Rattle.vx_layout_tree.specs.LayoutView.{layout_data};
-ghost use Rattle.vx_machine_ran.specs.Valid.{Valid};
+ghost use Rattle.vx_plan.specs.Valid.{Valid};
 ghost use Rattle.vx_fault.specs.Counts.{IsCalm};
 ghost use Rattle.vx_fault.specs.Faults.{FaultsTold};
 ghost use Rattle.vx_fault.specs.Told.{NoneTold};
@@ -16,9 +16,9 @@ ghost use Rattle.vx_write_answer.specs.declared.error.WriteError.TheVariants.{Ou
 ghost use Rattle.vx_write_answer.specs.Causes.{errs, is_source_fault, is_sink_fault, is_compress_fault};
 ghost use Rattle.vx_machine.specs.Calls.{reads_in, appends_in, calls_in, asked_by};
 ghost use Rattle.vx_machine.specs.Context.{setting_of};
-ghost use Rattle.vx_machine_ran.specs.Number.{segments};
-ghost use Rattle.vx_machine_ran.specs.Traced.{Traced};
-ghost use Rattle.vx_machine_ran.specs.Written.{Planned, Wrote, Halted};
+ghost use Rattle.vx_plan.specs.Number.{segments};
+ghost use Rattle.vx_write.specs.Traced.{Traced};
+ghost use Rattle.vx_write.specs.Written.{Planned, Wrote, Halted};
 ghost use Rattle.vx_write.specs.Answer.{SameContext, AnsweredTold};
 ghost use Rattle.vx_write.specs.Readable.{IsReadable};
 
@@ -73,7 +73,7 @@ pub(crate) fn write_tasks<B: BatchSource, S: SegmentSink, C: CompressorPlugin>(
     ensures borrow { S.borrow result.1 ≡ S.borrow sink }
     ensures same { SameContext ctx.old ctx.new × (B.kind source.new ≡ B.kind source.old) × (C.kind compressor.new ≡ C.kind compressor.old) }
 {
-    vx_machine_ran::answers();
+    crate::laws::answers();
     vx_setting::real_settings_keep();
     vx_prune_laws::pruning_keeps_rows();
     vx_parse_back_laws::written_is_parsed();

@@ -3,7 +3,7 @@
 ghost use Rattle.std.specs.Prelude.{◌≡◌, ◌+◌, ◌-◌, ◌≤◌, ◌^◌, max, List, Some, IfOk, IfErr, OnOk};
 ghost use Rattle.vx_model.specs.ChunkData.{ChunkData};
 ghost use Rattle.vx_layout_tree.specs.LayoutView.{layout_data};
-ghost use Rattle.vx_machine_ran.specs.Valid.{Valid};
+ghost use Rattle.vx_plan.specs.Valid.{Valid};
 ghost use Rattle.vx_fault.specs.Counts.{IsCalm};
 ghost use Rattle.vx_fault.specs.Faults.{FaultsTold};
 ghost use Rattle.vx_fault.specs.Told.{NoneTold};
@@ -13,9 +13,9 @@ ghost use Rattle.vx_write_answer.specs.declared.error.WriteError.TheVariants.{Ou
 ghost use Rattle.vx_write_answer.specs.Causes.{errs, is_source_fault, is_sink_fault, is_compress_fault};
 ghost use Rattle.vx_machine.specs.Calls.{appends_in, calls_in};
 ghost use Rattle.vx_machine.specs.Context.{setting_of};
-ghost use Rattle.vx_machine_ran.specs.Number.{segments};
-ghost use Rattle.vx_machine_ran.specs.Traced.{Traced};
-ghost use Rattle.vx_machine_ran.specs.Written.{Planned, Wrote, Halted};
+ghost use Rattle.vx_plan.specs.Number.{segments};
+ghost use Rattle.vx_write.specs.Traced.{Traced};
+ghost use Rattle.vx_write.specs.Written.{Planned, Wrote, Halted};
 ghost use Rattle.vx_write.specs.Answer.{SameContext, steps_of, asked};
 ghost use Rattle.vx_write.specs.Readable.{IsReadable};
 

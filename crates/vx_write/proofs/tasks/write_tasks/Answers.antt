@@ -1,7 +1,7 @@
 use Rattle.std.proofs.Common.{◌∙◌, ℕ, Option, Err, Ok, Some, None, refl, sym, ap, subst, inl, inr}
 use Rattle.vx_model.specs.ChunkData.{ChunkData}
 use Rattle.vx_model.specs.Distinct.{first_repeat}
-use Rattle.vx_machine_ran.specs.Valid.{Keeps}
+use Rattle.vx_plan.specs.Valid.{Keeps}
 use Rattle.vx_fault.specs.Counts.{Counts}
 use Rattle.vx_layout_tree.specs.LayoutView.{layout_data}
 use Rattle.vx_layout_tree.specs.declared.layout.Layout.{Layout}
@@ -10,7 +10,7 @@ use Rattle.vx_strategy.specs.StrategyView.{strategy_data}
 use Rattle.vx_write_answer.specs.declared.error.WriteError.TheVariants.{OutOfMemory}
 use Rattle.vx_write_answer.specs.Causes.{is_sink_fault}
 use Rattle.vx_machine.specs.Context.{setting_of}
-use Rattle.vx_machine_ran.specs.Answered.{Answered}
+use Rattle.vx_write.specs.Answered.{Answered}
 use Rattle.vx_write.specs.Answer.{StoppedTold}
 use Rattle.vx_write.proofs.RanSteps.{setting_keeps, handed, outlet_of, first_held, answers_told, outside_memory}
 use Rattle.vx_write.proofs.ReadSteps.{planned_readable}

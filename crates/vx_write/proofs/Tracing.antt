@@ -32,9 +32,9 @@ use Rattle.vx_machine.specs.Context.{setting_of}
 use Rattle.vx_machine.specs.Outcome.{action_of}
 use Rattle.vx_machine.specs.Run.{At, ready_at}
 use Rattle.vx_machine.proofs.Going.{pick_here}
-use Rattle.vx_machine_ran.specs.Ran.{write_by, Onward}
+use Rattle.vx_write.specs.Ran.{write_by, Onward}
 use Rattle.vx_machine.specs.Progress.{ShowsNote}
-use Rattle.vx_machine_ran.specs.Traced.{IsTraced, answers_in}
+use Rattle.vx_write.specs.Traced.{IsTraced, answers_in}
 
 -- ---- lists of steps
 

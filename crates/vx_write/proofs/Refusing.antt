@@ -36,7 +36,7 @@ use Rattle.vx_machine.specs.TaskActing.{CallFails}
 use Rattle.vx_machine.specs.SourceActs.{IsElsewhere}
 use Rattle.vx_machine.specs.Progress.{ShowsNote}
 use Rattle.vx_machine.specs.Run.{ready_at}
-use Rattle.vx_machine_ran.specs.RefusedAct.{LeadTo, NextAct, IsRead, IsAppend, CountsPast, IsOwn}
+use Rattle.vx_write.specs.RefusedAct.{LeadTo, NextAct, IsRead, IsAppend, CountsPast, IsOwn}
 
 -- why a step is refused over this sink, where the tracker counts so much
 abbrev pub RefusedBy : ℕ → WholeStep → Outlet → WriteError → Type 0

@@ -23,11 +23,11 @@ use Rattle.vx_machine_runs.specs.Numbers.{AllBelow}
 use Rattle.vx_machine.specs.Calls.{appends_in}
 use Rattle.vx_machine.specs.Context.{setting_of}
 use Rattle.vx_machine.specs.Run.{At, Ran, RunDone, RunStopped}
-use Rattle.vx_machine_ran.specs.Ran.{write_by, OwnSink, at_start}
-use Rattle.vx_machine_ran.specs.Traced.{tasks_of, Traced, StepsBegin, StepsAreFirst}
-use Rattle.vx_machine_ran.specs.Tracking.{Passes}
-use Rattle.vx_machine_ran.specs.RefusedAct.{RefusedThere}
-use Rattle.vx_machine_ran.specs.Written.{Planned, Wrote, Stands, AreFirst, HasCause, AskedInSteps}
+use Rattle.vx_write.specs.Ran.{write_by, OwnSink, at_start}
+use Rattle.vx_write.specs.Traced.{tasks_of, Traced, StepsBegin, StepsAreFirst}
+use Rattle.vx_write.specs.Tracking.{Passes}
+use Rattle.vx_write.specs.RefusedAct.{RefusedThere}
+use Rattle.vx_write.specs.Written.{Planned, Wrote, Stands, AreFirst, HasCause, AskedInSteps}
 
 -- ---- done
 

@@ -34,17 +34,17 @@ use Rattle.vx_machine.specs.Context.{setting_of}
 use Rattle.vx_machine.specs.Outcome.{Kept}
 use Rattle.vx_machine.specs.TaskStarting.{FormRefused}
 use Rattle.vx_machine.specs.TaskView.{form_at}
-use Rattle.vx_machine_ran.specs.Ran.{write_by, OwnSink, own_sink}
-use Rattle.vx_machine_ran.specs.RefusedAct.{StartRefuses}
-use Rattle.vx_machine_ran.specs.Traced.{tasks_of, StepsBegin}
-use Rattle.vx_machine_ran.specs.Runs.{AllDone, DoneIsWritten, Halts, StoppedHalts, IsLeft, RunsLeaveSinks}
-use Rattle.vx_machine_ran.specs.Tracking.{Passes, PassesAt}
-use Rattle.vx_machine_ran.specs.Written.{AreFirst, NeedsNumber, HasCause, write_of, Halted}
-use Rattle.vx_machine_ran.specs.Answered.{IsStarted, HasRun, HasStopped, WroteAll, AnswersAreWritten, AnswersLeaveSinks, IsOutside, AnswersAreComplete}
-use Rattle.vx_machine_ran.proofs.Imaging.{keeps_careful}
-use Rattle.vx_machine_ran.proofs.Leading.{told_same, then_same}
-use Rattle.vx_machine_ran.proofs.Writing.{own_more}
-use Rattle.vx_machine_ran.proofs.Stopping.{kept_own}
+use Rattle.vx_write.specs.Ran.{write_by, OwnSink, own_sink}
+use Rattle.vx_write.specs.RefusedAct.{StartRefuses}
+use Rattle.vx_write.specs.Traced.{tasks_of, StepsBegin}
+use Rattle.vx_write.specs.Runs.{AllDone, DoneIsWritten, Halts, StoppedHalts, IsLeft, RunsLeaveSinks}
+use Rattle.vx_write.specs.Tracking.{Passes, PassesAt}
+use Rattle.vx_write.specs.Written.{AreFirst, NeedsNumber, HasCause, write_of, Halted}
+use Rattle.vx_write.specs.Answered.{IsStarted, HasRun, HasStopped, WroteAll, AnswersAreWritten, AnswersLeaveSinks, IsOutside, AnswersAreComplete}
+use Rattle.vx_write.proofs.Imaging.{keeps_careful}
+use Rattle.vx_write.proofs.Leading.{told_same, then_same}
+use Rattle.vx_write.proofs.Writing.{own_more}
+use Rattle.vx_write.proofs.Stopping.{kept_own}
 
 -- ---- where nothing was started
 

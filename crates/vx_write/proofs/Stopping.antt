@@ -56,22 +56,22 @@ use Rattle.vx_machine.specs.SourceActs.{AsksAt, IsElsewhere, TellsNothing, Tells
 use Rattle.vx_machine.specs.Steps.{StepRefused}
 use Rattle.vx_machine.specs.TaskActing.{CallFails}
 use Rattle.vx_machine.specs.Run.{At, ready_at, tracker_by, Stops}
-use Rattle.vx_machine_ran.specs.Ran.{write_by, OwnSink, Onward}
-use Rattle.vx_machine_ran.specs.Runs.{Halts, StoppedHalts}
+use Rattle.vx_write.specs.Ran.{write_by, OwnSink, Onward}
+use Rattle.vx_write.specs.Runs.{Halts, StoppedHalts}
 use Rattle.vx_machine.proofs.StepShows.{asks_not, tells_memory}
-use Rattle.vx_machine_ran.specs.RefusedAct.{NextAct, IsRead, IsOwn, RefusedThere}
+use Rattle.vx_write.specs.RefusedAct.{NextAct, IsRead, IsOwn, RefusedThere}
 use Rattle.vx_machine.specs.Progress.{ShowsNote}
-use Rattle.vx_machine_ran.specs.Traced.{tasks_of, IsRefusal, StepsBegin, StepsAreFirst, answers_in, IsLate}
-use Rattle.vx_machine_ran.specs.Tracking.{Passes}
-use Rattle.vx_machine_ran.specs.Written.{AreFirst, NeedsNumber, HasCause, AskedInSteps}
+use Rattle.vx_write.specs.Traced.{tasks_of, IsRefusal, StepsBegin, StepsAreFirst, answers_in, IsLate}
+use Rattle.vx_write.specs.Tracking.{Passes}
+use Rattle.vx_write.specs.Written.{AreFirst, NeedsNumber, HasCause, AskedInSteps}
 use Rattle.vx_machine.proofs.Fewness.{Few, whole_few}
 use Rattle.vx_machine.proofs.Going.{asking}
-use Rattle.vx_machine_ran.proofs.Leading.{told_one, runs_are_led}
+use Rattle.vx_write.proofs.Leading.{told_one, runs_are_led}
 use Rattle.vx_machine_runs.proofs.Bounding.{counts_so}
-use Rattle.vx_machine_ran.proofs.Joined.{joins_fit}
-use Rattle.vx_machine_ran.proofs.Refusing.{RefusedBy, SameAct, is_own, own_read, next_act}
-use Rattle.vx_machine_ran.proofs.Tracing.{reads_are, traced_front, refused_last, misfit_last}
-use Rattle.vx_machine_ran.proofs.Writing.{stored_length, own_more, under}
+use Rattle.vx_write.proofs.Joined.{joins_fit}
+use Rattle.vx_write.proofs.Refusing.{RefusedBy, SameAct, is_own, own_read, next_act}
+use Rattle.vx_write.proofs.Tracing.{reads_are, traced_front, refused_last, misfit_last}
+use Rattle.vx_write.proofs.Writing.{stored_length, own_more, under}
 
 stored-append : (xs ys : List Pair) → stored (xs ++ ys) ≡ stored xs ++ stored ys
 stored-append [] ys = refl

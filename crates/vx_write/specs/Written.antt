@@ -16,9 +16,9 @@ use Rattle.vx_write_answer.specs.declared.error.WriteError.{WriteError}
 use Rattle.vx_write_answer.specs.declared.error.WriteError.TheVariants.{SourceFault, SinkFault, CompressFault, BatchType, NotStruct, DuplicateField, ManyChunks, EmptyList, ZoneCut, ForbiddenAggregate, ForbiddenEncoding, TooLarge, OutOfMemory, Stopped}
 use Rattle.vx_machine.specs.Calls.{reads_in, misfits}
 use Rattle.vx_machine_promises.specs.Write.{Write}
-use Rattle.vx_machine_ran.specs.Traced.{tasks_of, StepsBeginAll, StepsAreFirst, answers_in, IsLate}
-use Rattle.vx_machine_ran.specs.Tracking.{PassesAt}
-use Rattle.vx_machine_ran.specs.RefusedAct.{RefusedThere}
+use Rattle.vx_write.specs.Traced.{tasks_of, StepsBeginAll, StepsAreFirst, answers_in, IsLate}
+use Rattle.vx_write.specs.Tracking.{PassesAt}
+use Rattle.vx_write.specs.RefusedAct.{RefusedThere}
 
 -- ---- a write that came to its end
 

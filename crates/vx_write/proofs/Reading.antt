@@ -15,11 +15,11 @@ use Rattle.vx_machine.specs.Calls.{reads_at}
 use Rattle.vx_machine.specs.Context.{setting_of}
 use Rattle.vx_machine.specs.Steps.{StepRefused}
 use Rattle.vx_machine.specs.Run.{picked_at, tracker_by, Stops}
-use Rattle.vx_machine_ran.specs.Ran.{write_by, Onward}
-use Rattle.vx_machine_ran.specs.Answered.{MisfitsAreRead}
-use Rattle.vx_machine_ran.proofs.Imaging.{keeps_careful}
-use Rattle.vx_machine_ran.proofs.Leading.{runs_are_led}
-use Rattle.vx_machine_ran.proofs.Writing.{under}
+use Rattle.vx_write.specs.Ran.{write_by, Onward}
+use Rattle.vx_write.specs.Answered.{MisfitsAreRead}
+use Rattle.vx_write.proofs.Imaging.{keeps_careful}
+use Rattle.vx_write.proofs.Leading.{runs_are_led}
+use Rattle.vx_write.proofs.Writing.{under}
 
 pub misfits_are_read : RunIsUnderway → StartFaultsAgree → MisfitsAreRead
 misfits_are_read run agree ctx image w t schedule to_come to_come_now borrow first before steps after c keeps a r = by r.stops

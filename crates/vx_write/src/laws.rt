@@ -1,10 +1,9 @@
 //! Runs of the step machine in code are writes: what a run has written at its end, and what stands where it stopped.
 //! Each function here is a law; its body calls the laws that it stands on.
-#![tactic(auto)]
 
-ghost use Rattle.vx_machine_ran.specs.Ran.{RunsAreLed};
-ghost use Rattle.vx_machine_ran.specs.Runs.{DoneIsWritten, StoppedHalts, RunsLeaveSinks};
-ghost use Rattle.vx_machine_ran.specs.Answered.{AnswersAreWritten, AnswersLeaveSinks, AnswersAreComplete, MisfitsAreRead};
+ghost use Rattle.vx_write.specs.Ran.{RunsAreLed};
+ghost use Rattle.vx_write.specs.Runs.{DoneIsWritten, StoppedHalts, RunsLeaveSinks};
+ghost use Rattle.vx_write.specs.Answered.{AnswersAreWritten, AnswersLeaveSinks, AnswersAreComplete, MisfitsAreRead};
 
 /// The steps of a run lead on in plain data, and each counts what fits 64 bits.
 pub fn leads()

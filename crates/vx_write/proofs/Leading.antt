@@ -21,7 +21,7 @@ use Rattle.vx_machine.specs.Outcome.{action_of}
 use Rattle.vx_machine.specs.SourceActs.{Tells}
 use Rattle.vx_machine.specs.Steps.{WholeStepped}
 use Rattle.vx_machine.specs.Run.{At, ready_at, Ran}
-use Rattle.vx_machine_ran.specs.Ran.{write_by, OwnSink, at_start, SameStand, Onward, RunsAreLed}
+use Rattle.vx_write.specs.Ran.{write_by, OwnSink, at_start, SameStand, Onward, RunsAreLed}
 use Rattle.vx_machine.proofs.Fewness.{Few, whole_few}
 use Rattle.vx_machine.proofs.Going.{pick_here, one_later, NextIs, led_more, once, to, note, done, as_many}
 

@@ -1,6 +1,6 @@
-use Rattle.vx_machine_ran.proofs.Writing.{done_is_written, runs_leave_sinks}
-use Rattle.vx_machine_ran.proofs.Stopping.{stopped_halts}
-use Rattle.vx_machine_ran.proofs.writes.Goals as goal
+use Rattle.vx_write.proofs.Writing.{done_is_written, runs_leave_sinks}
+use Rattle.vx_write.proofs.Stopping.{stopped_halts}
+use Rattle.vx_write.proofs.laws.writes.Goals as goal
 
 pub returns-clause-done : goal.returns-clause-done
 returns-clause-done c =

@@ -1,6 +1,6 @@
-use Rattle.vx_machine_ran.proofs.Answering.{answers_are_written, answers_leave_sinks, answers_are_complete}
-use Rattle.vx_machine_ran.proofs.Reading.{misfits_are_read}
-use Rattle.vx_machine_ran.proofs.answers.Goals as goal
+use Rattle.vx_write.proofs.Answering.{answers_are_written, answers_leave_sinks, answers_are_complete}
+use Rattle.vx_write.proofs.Reading.{misfits_are_read}
+use Rattle.vx_write.proofs.laws.answers.Goals as goal
 
 pub returns-clause-written : goal.returns-clause-written
 returns-clause-written c =

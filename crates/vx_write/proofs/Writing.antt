@@ -36,13 +36,13 @@ use Rattle.vx_machine_runs.proofs.Stepping.{places, schedule_is_free}
 use Rattle.vx_machine.specs.Calls.{appends_in}
 use Rattle.vx_machine.specs.Context.{setting_of}
 use Rattle.vx_machine.specs.Run.{At, Ends, ready_at}
-use Rattle.vx_machine_ran.specs.Ran.{write_by, OwnSink, Onward}
-use Rattle.vx_machine_ran.specs.Runs.{AllDone, DoneIsWritten, RunsLeaveSinks}
-use Rattle.vx_machine_ran.specs.Traced.{IsTraced, Traced}
-use Rattle.vx_machine_ran.specs.Written.{Planned, Wrote}
-use Rattle.vx_machine_ran.proofs.Imaging.{keeps_careful}
-use Rattle.vx_machine_ran.proofs.Leading.{runs_are_led}
-use Rattle.vx_machine_ran.proofs.Tracing.{appends_are, traced_whole}
+use Rattle.vx_write.specs.Ran.{write_by, OwnSink, Onward}
+use Rattle.vx_write.specs.Runs.{AllDone, DoneIsWritten, RunsLeaveSinks}
+use Rattle.vx_write.specs.Traced.{IsTraced, Traced}
+use Rattle.vx_write.specs.Written.{Planned, Wrote}
+use Rattle.vx_write.proofs.Imaging.{keeps_careful}
+use Rattle.vx_write.proofs.Leading.{runs_are_led}
+use Rattle.vx_write.proofs.Tracing.{appends_are, traced_whole}
 
 -- ---- lists and sinks
 

@@ -23,10 +23,10 @@ use Rattle.vx_machine.specs.TaskStarting.{IsAllowed, FormRefused}
 use Rattle.vx_machine.specs.Calls.{reads_at}
 use Rattle.vx_machine.specs.Run.{At, at, RunDone, RunStopped, picked_at}
 use Rattle.vx_machine.specs.TaskView.{form_at}
-use Rattle.vx_machine_ran.specs.Ran.{OwnSink, own_sink}
-use Rattle.vx_machine_ran.specs.Traced.{Traced}
-use Rattle.vx_machine_ran.specs.Written.{Planned, Wrote, Halted}
-use Rattle.vx_machine_ran.specs.Runs.{IsLeft}
+use Rattle.vx_write.specs.Ran.{OwnSink, own_sink}
+use Rattle.vx_write.specs.Traced.{Traced}
+use Rattle.vx_write.specs.Written.{Planned, Wrote, Halted}
+use Rattle.vx_write.specs.Runs.{IsLeft}
 
 -- the machine of a strategy at a type, with this mark, before the first step
 abbrev pub begun : StrategyData → Ty → Bool → Option (List ChunkData) → Outlet → At
