@@ -49,7 +49,7 @@ use Rattle.vx_machine_task.specs.Ready.{kid_of, kids_of, room_at}
 use Rattle.vx_machine_start.specs.Starting.{IsAllowed, KidStarted, StartRefused, FormRefused}
 use Rattle.vx_machine_task.specs.Stocks.{task_stock, tasks_stock}
 use Rattle.vx_machine_task.specs.View.{desk_of, task_row, row}
-use Rattle.vx_machine_tasks.proofs.DictStarts.{fault_why}
+use Rattle.vx_machine_children.proofs.DictStarts.{fault_why}
 use Rattle.vx_machine_task.proofs.PaidSteps.{at_same}
 use Rattle.vx_machine_start.proofs.StartShows.{refused_as}
 use Rattle.vx_machine_task.proofs.ViewParts.{add_add, count_row, row_out}

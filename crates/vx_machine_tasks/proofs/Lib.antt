@@ -1,6 +1,4 @@
-pub mod ChunkTakes
 pub mod PairSteps
-pub mod DictStarts
 pub mod NextShows
 pub mod CallShows
 pub mod AskShows
@@ -8,4 +6,3 @@ pub mod DictActs
 pub mod StepViews
 pub mod StepShows
 pub mod StepLifts
-pub mod TableStarts

@@ -18,14 +18,13 @@ ghost use Rattle.vx_machine_task.specs.Stocks.{head_stock, tasks_stock};
 ghost use Rattle.vx_machine_node.specs.View.{todo_of};
 ghost use Rattle.vx_machine_task.specs.View.{row};
 
-use crate::chunked::take_chunked;
 use crate::dict_acts::{ask, end_probe, end_run, open_run};
-use crate::table_start::start_table;
 use std::alloc::Global;
 use std::collections::VecDeque;
 use vx_machine_acts::{
     append_due, ask_first, close_all, cut_runs, end, hand_over, join_due, put, regroup,
 };
+use vx_machine_children::{start_table, take_chunked};
 use vx_machine_ids::give_up_pointer;
 use vx_machine_node::{Due, Item, Local, give_up_item};
 use vx_machine_nodes::{

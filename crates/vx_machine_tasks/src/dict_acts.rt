@@ -23,11 +23,11 @@ ghost use Rattle.vx_machine_task.specs.Ready.{room_at, kids_of};
 ghost use Rattle.vx_machine_task.specs.Stocks.{tasks_stock};
 ghost use Rattle.vx_machine_task.specs.View.{row};
 
-use crate::dict_start::{start_codes, start_fallback, start_values};
 use std::alloc::Global;
 use std::collections::VecDeque;
 use std::mem;
 use vx_machine_acts::put;
+use vx_machine_children::{start_codes, start_fallback, start_values};
 use vx_machine_ids::{give_up_id, give_up_pointer};
 use vx_machine_node::{
     DictProbe, Due, Item, Local, RunStart, give_up_item, give_up_probe, set_local,

@@ -3,10 +3,7 @@
 #![tactic(auto)]
 
 mod advance;
-mod chunked;
 mod dict_acts;
-mod dict_start;
 mod steps;
-mod table_start;
 
 pub use steps::{Did, step};

@@ -1,0 +1,3 @@
+pub mod ChunkTakes
+pub mod DictStarts
+pub mod TableStarts
