@@ -8,12 +8,12 @@ use Rattle.vx_layout_spec.specs.Real.{Whole}
 use Rattle.vx_segment_writer.specs.Segment.{encode}
 use Rattle.vx_segment_reader.specs.declared.error.DecodeError.{DecodeError}
 use Rattle.vx_segment_reader.specs.declared.error.DecodeError.TheVariants as errors
-use Rattle.vx_segment_reader.specs.Reading.{Fault}
-use Rattle.vx_segment_reader.specs.Segment.{decode}
-use Rattle.vx_segment_reader.specs.Codec.{IsSegment}
+use Rattle.vx_segment_spec.specs.Reading.{Fault}
+use Rattle.vx_segment_spec.specs.Segment.{decode}
+use Rattle.vx_segment_spec.specs.Codec.{IsSegment}
 use Rattle.vx_segment_reader.specs.Views.{Fails, Gives}
 use Rattle.vx_byte_reader.proofs.FieldLaws.{IsBytes}
-use Rattle.vx_segment_reader.proofs.SegmentLaws.{decode_takes, decode_again}
+use Rattle.vx_segment_spec.proofs.SegmentLaws.{decode_takes, decode_again}
 
 abbrev itself : ChunkData → ChunkData
 itself p = p

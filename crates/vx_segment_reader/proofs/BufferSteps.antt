@@ -6,9 +6,10 @@ use Rattle.vx_segment_writer.specs.Segment.{padding_at}
 use Rattle.vx_segment_reader.specs.declared.node.Node.{Node}
 use Rattle.vx_segment_reader.specs.declared.error.DecodeError.{DecodeError}
 use Rattle.vx_byte_reader.specs.Places.{◌>>=◌}
-use Rattle.vx_segment_reader.specs.Reading.{Fault, bad_grammar}
-use Rattle.vx_segment_reader.specs.Segment.{set_byte, unless_set, buffer_at, buffers_at, lengths_of}
+use Rattle.vx_segment_spec.specs.Reading.{Fault, bad_grammar}
+use Rattle.vx_segment_spec.specs.Segment.{set_byte, unless_set, buffer_at, buffers_at, lengths_of}
 use Rattle.vx_segment_reader.specs.Views.{Fails, head}
+use Rattle.vx_segment_spec.proofs.BufferLaws.{buffer_is}
 use Rattle.vx_segment_reader.proofs.Loops.{fails_with}
 
 pub drop_lengths : (ns : List Node) (i : ℕ) (n : Node) → i < length ns → n ≡ get_or ns i n
@@ -46,18 +47,6 @@ pub set_nowhere : (at i : ℕ) (bytes : List ℕ) (total : Option ℕ) → lengt
 set_nowhere at i bytes total le so_far = sym (ap (set_byte (at + i)) (drop_all i bytes le)) ∙ so_far
 
 -- ---- one buffer behind another
-
-got : {A : Type 0} (set : Option ℕ) (short : Bool) (f : Fault) (x y : A) → unless_set set (cond short (Err f) (Ok x)) ≡ Ok y → (set ≡ None) × (short ≡ false) × (x ≡ y)
-got None true f x y e = absurd cc
-got None false f x y e = (refl, refl, cc)
-got (Some place) short f x y e = absurd cc
-
--- what is known of a buffer that was read
-pub buffer_is : (padding at n : ℕ) (bytes b after : List ℕ) → buffer_at padding at n bytes ≡ Ok (b, after)
-    → (set_byte at (take padding bytes) ≡ None) × (padding + n ≤ length bytes) × (b ≡ take n (drop padding bytes)) × (after ≡ drop (padding + n) bytes)
-buffer_is padding at n bytes b after e =
-    let g = got (set_byte at (take padding bytes)) (ltb (length bytes) (padding + n)) (bad_grammar (at + padding)) (take n (drop padding bytes), drop (padding + n) bytes) (b, after) e in
-    (g.0, ltb-false _ _ g.1, sym (ap (λ (p : List ℕ × List ℕ). p.0) g.2), sym (ap (λ (p : List ℕ × List ℕ). p.1) g.2))
 
 pub is_some : (empty : Bool) (n : ℕ) → empty ≡ eqb n 0 → empty ≡ false → 0 < n
 is_some empty zero is e = absurd cc

@@ -5,7 +5,7 @@ use Rattle.vx_segment_reader.specs.declared.error.DecodeError.{DecodeError}
 use Rattle.vx_segment_reader.specs.declared.error.DecodeError.TheVariants as errors
 use Rattle.vx_byte_reader.specs.Places.{◌>>=◌, many_at}
 use Rattle.vx_byte_reader.proofs.PlaceLoops.{with_front, regroup, many_stops}
-use Rattle.vx_segment_reader.specs.Reading.{Fault, bad_grammar, bad_type, node_at, nodes_at}
+use Rattle.vx_segment_spec.specs.Reading.{Fault, bad_grammar, bad_type, node_at, nodes_at}
 use Rattle.vx_segment_writer.specs.Head.{Head}
 use Rattle.vx_segment_reader.specs.Views.{Fails}
 

@@ -14,12 +14,12 @@ use Rattle.vx_model.specs.declared.dtype.DType as dt
 use Rattle.vx_model.specs.declared.dtype.ExtDType.{ExtDType, out-ExtDType}
 use Rattle.vx_segment_reader.specs.declared.error.DecodeError.{DecodeError}
 use Rattle.vx_byte_reader.specs.Places.{◌>>=◌}
-use Rattle.vx_segment_reader.specs.Reading.{Fault}
-use Rattle.vx_segment_reader.specs.Pieces.{Rest, Frame, pieces_at, have_rows, no_pieces_at, piece_then, piece_at, columns_at, count_fields}
+use Rattle.vx_segment_spec.specs.Reading.{Fault}
+use Rattle.vx_segment_spec.specs.Pieces.{Rest, Frame, pieces_at, have_rows, no_pieces_at, piece_then, piece_at, columns_at, count_fields}
 use Rattle.vx_segment_reader.specs.TypeDepth.{ty_depth, tys_depth}
 use Rattle.vx_segment_reader.specs.Views.{Fails}
 use Rattle.vx_segment_reader.proofs.Loops.{fails_with}
-use Rattle.vx_segment_reader.proofs.PieceTypes.{same_type}
+use Rattle.vx_segment_spec.proofs.PieceTypes.{same_type}
 
 -- what was read before, and what is still read
 abbrev pub with_more : List ChunkData → Result (List ChunkData × Rest) Fault → Result (List ChunkData × Rest) Fault

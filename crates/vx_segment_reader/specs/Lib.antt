@@ -1,8 +1,5 @@
-pub mod Reading
-pub mod Pieces
+pub use Rattle.vx_segment_spec.specs.Reading
+pub use Rattle.vx_segment_spec.specs.Segment
+pub use Rattle.vx_segment_spec.specs.Codec
 pub mod TypeDepth
-pub mod Segment
-pub mod Codec
-pub mod Examples
-pub mod Spelled
 pub mod Views

@@ -7,12 +7,12 @@ use Rattle.vx_segment_reader.specs.declared.node.EncodingTree.{EncodingTree}
 use Rattle.vx_segment_reader.specs.declared.node.RawSegment.{RawSegment}
 use Rattle.vx_segment_reader.specs.declared.error.DecodeError.{DecodeError}
 use Rattle.vx_segment_reader.specs.declared.error.DecodeError.TheVariants as errors
-use Rattle.vx_segment_reader.specs.Reading.{Fault, bad_grammar, bad_type, RawTree}
+use Rattle.vx_segment_spec.specs.Reading.{Fault, bad_grammar, bad_type, RawTree}
 use Rattle.vx_segment_writer.specs.Head.{Head}
 use Rattle.vx_segment_reader.specs.declared.rest.Frame.{Frame as HeldFrame}
 use Rattle.vx_segment_reader.specs.declared.rest.Rest.{Rest as HeldRest}
-use Rattle.vx_segment_reader.specs.Pieces.{Frame, Rest}
-use Rattle.vx_segment_reader.specs.Segment.{Raw}
+use Rattle.vx_segment_spec.specs.Pieces.{Frame, Rest}
+use Rattle.vx_segment_spec.specs.Segment.{Raw}
 
 -- the same fault; memory may run out
 abbrev pub Fails : {Y : Type 0} → DecodeError → Result Y Fault → Type 0

@@ -2,7 +2,7 @@
 
 ghost use Rattle.std.specs.Prelude.{◌≡◌, ◌+◌, ◌<◌, ◌^◌, length, map, IfOk};
 ghost use Rattle.vx_segment_writer.specs.Segment.{padding_at};
-ghost use Rattle.vx_segment_reader.specs.Segment.{set_byte as first_set, buffer_at as buffer_from, buffers_at, lengths_of};
+ghost use Rattle.vx_segment_spec.specs.Segment.{set_byte as first_set, buffer_at as buffer_from, buffers_at, lengths_of};
 ghost use Rattle.vx_segment_reader.specs.Views.{Gives, head};
 
 use crate::error::DecodeError;

@@ -3,7 +3,6 @@
 
 mod buffers;
 mod error;
-mod law;
 mod made;
 mod node;
 mod pieces;
@@ -13,5 +12,4 @@ mod simple;
 mod tree;
 
 pub use error::DecodeError;
-pub use law::{segment_examples, segments_read_back};
 pub use segment::{buffer_lengths, decode_segment, tree_buffer_lengths};

@@ -4,7 +4,7 @@
 ghost use Rattle.std.specs.Prelude.{◌≡◌, ◌-◌, ◌==◌, length, IsTrue};
 ghost use Rattle.vx_model.specs.TyView.{ty};
 ghost use Rattle.vx_model.specs.ChunkData.{piece_type, cells, joined_cells, pieces_of, dict_piece, chunked_piece, list_piece, extension_piece, is_simple, is_code_type, is_dict_type, are_parts, are_offsets as offsets_fit, are_flags, has_elements, has_storage};
-ghost use Rattle.vx_segment_reader.specs.Pieces.{are_codes as fit_codes, made_at};
+ghost use Rattle.vx_segment_spec.specs.Pieces.{are_codes as fit_codes, made_at};
 ghost use Rattle.vx_segment_reader.specs.Views.{Gives, rest as left};
 
 use crate::error::DecodeError;

@@ -4,7 +4,7 @@ ghost use Rattle.std.specs.Prelude.{◌≡◌, ◌&&◌, ◌==◌, false, map, l
 ghost use Rattle.vx_model.specs.Ty.{tys_of, primitive, list, struct, nullable};
 ghost use Rattle.vx_model.specs.ChunkData.{has_storage, is_dict_type as of_values};
 ghost use Rattle.vx_model.specs.TyView.{ty, field_ty};
-ghost use Rattle.vx_segment_reader.specs.Pieces.{code_type as type_of_codes, have_rows as all_have, count_fields, simple_at, dict_at, pieces_at, chunked_at, list_at, struct_at, extension_at, own_of, part_of, part_at, piece_at, columns_at};
+ghost use Rattle.vx_segment_spec.specs.Pieces.{code_type as type_of_codes, have_rows as all_have, count_fields, simple_at, dict_at, pieces_at, chunked_at, list_at, struct_at, extension_at, own_of, part_of, part_at, piece_at, columns_at};
 ghost use Rattle.vx_segment_reader.specs.Views.{Gives, head, frame as framed, rest as left};
 
 use crate::error::DecodeError;
@@ -49,7 +49,7 @@ fn read_codes<'a>(
     read_simple(frame, &dtype, rest)
 }
 
-#[tactic(auto, unfolding(crate::specs::Pieces::dict_at))]
+#[tactic(auto, unfolding(vx_segment_spec::specs::Pieces::dict_at))]
 fn read_dict<'a>(
     frame: &Frame,
     dtype: &DType,
@@ -103,7 +103,7 @@ fn read_parts<'a>(
 }
 
 #[cycle(pieces)]
-#[tactic(auto, unfolding(crate::specs::Pieces::chunked_at))]
+#[tactic(auto, unfolding(vx_segment_spec::specs::Pieces::chunked_at))]
 fn read_chunked<'a>(
     frame: &Frame,
     dtype: &DType,
@@ -121,7 +121,7 @@ fn read_chunked<'a>(
 }
 
 #[cycle(pieces)]
-#[tactic(auto, using(crate::proofs::PieceSteps::list_rules), unfolding(crate::specs::Pieces::list_at))]
+#[tactic(auto, using(crate::proofs::PieceSteps::list_rules), unfolding(vx_segment_spec::specs::Pieces::list_at))]
 fn read_list<'a>(
     frame: &Frame,
     dtype: &DType,
@@ -178,7 +178,7 @@ fn have_rows(rows: u64, chunks: &[Chunk]) -> bool
 }
 
 #[cycle(pieces)]
-#[tactic(auto, using(crate::proofs::PieceSteps::struct_rules), unfolding(crate::specs::Pieces::struct_at))]
+#[tactic(auto, using(crate::proofs::PieceSteps::struct_rules), unfolding(vx_segment_spec::specs::Pieces::struct_at))]
 fn read_struct<'a>(
     frame: &Frame,
     dtype: &DType,
@@ -206,7 +206,7 @@ fn read_struct<'a>(
 }
 
 #[cycle(pieces)]
-#[tactic(auto, using(crate::proofs::PieceSteps::extension_rules), unfolding(crate::specs::Pieces::extension_at))]
+#[tactic(auto, using(crate::proofs::PieceSteps::extension_rules), unfolding(vx_segment_spec::specs::Pieces::extension_at))]
 fn read_extension<'a>(
     frame: &Frame,
     dtype: &DType,
@@ -283,7 +283,7 @@ fn read_node<'a>(
 
 /// A chunk of the type that is none of parts.
 #[cycle(pieces)]
-#[tactic(auto, unfolding(crate::specs::Pieces::part_at))]
+#[tactic(auto, unfolding(vx_segment_spec::specs::Pieces::part_at))]
 fn read_part<'a>(
     frame: &Frame,
     dtype: &DType,
@@ -298,7 +298,7 @@ fn read_part<'a>(
 
 /// A chunk of the type.
 #[cycle(pieces)]
-#[tactic(auto, unfolding(crate::specs::Pieces::whole_at))]
+#[tactic(auto, unfolding(vx_segment_spec::specs::Pieces::whole_at))]
 pub(crate) fn read_piece<'a>(
     frame: &Frame,
     dtype: &DType,

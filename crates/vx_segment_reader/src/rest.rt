@@ -1,7 +1,7 @@
 //! What of a segment is still to be read.
 
 ghost use Rattle.std.specs.Prelude.{◌≡◌, ◌&&◌, ◌==◌, length};
-ghost use Rattle.vx_segment_reader.specs.Pieces.{number as next_number, node_of, buffer_of, is_shaped as shaped};
+ghost use Rattle.vx_segment_spec.specs.Pieces.{number as next_number, node_of, buffer_of, is_shaped as shaped};
 ghost use Rattle.vx_segment_reader.specs.Views.{Gives, head, frame as framed, rest as left};
 
 use crate::error::DecodeError;

@@ -5,8 +5,8 @@ ghost use Rattle.vx_model.specs.TyView.{ty};
 ghost use Rattle.vx_model.specs.ChunkData.{ChunkData, piece_type};
 ghost use Rattle.vx_layout_spec.specs.Real.{Whole};
 ghost use Rattle.vx_segment_writer.specs.Segment.{encode};
-ghost use Rattle.vx_segment_reader.specs.Codec.{IsSegment};
-ghost use Rattle.vx_segment_reader.specs.Segment.{halves_of, raw_of, piece_in, decode, segment_lengths, tree_lengths};
+ghost use Rattle.vx_segment_spec.specs.Codec.{IsSegment};
+ghost use Rattle.vx_segment_spec.specs.Segment.{halves_of, raw_of, piece_in, decode, segment_lengths, tree_lengths};
 ghost use Rattle.vx_segment_reader.specs.Views.{Gives, head, raw};
 
 use crate::buffers::{all_lengths, read_buffers};
@@ -20,7 +20,7 @@ use vx_chunk::Chunk;
 use vx_model::{ArrayContext, DType, EncodingId};
 
 /// The bytes before the tree, and the tree.
-#[tactic(auto, using(crate::proofs::SegmentSteps::half_rules, crate::proofs::TreeLaws::tree_again, crate::proofs::BufferLaws::halves_again))]
+#[tactic(auto, using(crate::proofs::SegmentSteps::half_rules, vx_segment_spec::proofs::TreeLaws::tree_again, vx_segment_spec::proofs::BufferLaws::halves_again))]
 fn halves(bytes: &[u8]) -> Result<(&[u8], &[u8]), DecodeError>
     ensures halves { Gives (λ x. (x.0.now, x.1.now)) result (halves_of bytes.now) }
     ensures shorter { IfOk result (λ x. length x.0.now + 8 ≤ length bytes.now) }
@@ -40,7 +40,7 @@ fn halves(bytes: &[u8]) -> Result<(&[u8], &[u8]), DecodeError>
 }
 
 /// The tree and the buffers, of every encoding.
-#[tactic(auto, unfolding(crate::specs::Segment::raw_of))]
+#[tactic(auto, unfolding(vx_segment_spec::specs::Segment::raw_of))]
 fn read_raw<'a>(alloc: Global, bytes: &'a [u8]) -> Result<RawSegment<'a>, DecodeError>
     ensures exact { Gives raw result (raw_of bytes.now) }
     ensures in_memory { length bytes.now < 2 ^ 64 }
@@ -68,7 +68,7 @@ pub fn tree_buffer_lengths(alloc: Global, tree: &[u8]) -> Result<Vec<u64>, Decod
     Ok(all_lengths(alloc, &read.nodes)?)
 }
 
-#[tactic(auto, unfolding(crate::specs::Segment::piece_in))]
+#[tactic(auto, unfolding(vx_segment_spec::specs::Segment::piece_in))]
 fn read_chunk(
     alloc: Global,
     ids: &[EncodingId],

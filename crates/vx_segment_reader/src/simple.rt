@@ -7,7 +7,7 @@ ghost use Rattle.vx_model.specs.TyView.{ty};
 ghost use Rattle.vx_model.specs.TreeView.{tree};
 ghost use Rattle.vx_cell_codec.specs.Reading.{cells_at, only_cell_at};
 ghost use Rattle.vx_cell_codec.specs.Columns.{offsets_at, flags_at};
-ghost use Rattle.vx_segment_reader.specs.Pieces.{given, flags_of, plain_at, constant_at, simple_at};
+ghost use Rattle.vx_segment_spec.specs.Pieces.{given, flags_of, plain_at, constant_at, simple_at};
 ghost use Rattle.vx_segment_reader.specs.Views.{Gives, given_of, head, frame as framed, rest as left};
 
 use crate::error::DecodeError;
@@ -71,7 +71,7 @@ pub(crate) fn offsets_of(
 }
 
 /// A flag a row where the type is nullable; else none, and no buffer.
-#[tactic(auto, unfolding(crate::specs::Pieces::flags_of))]
+#[tactic(auto, unfolding(vx_segment_spec::specs::Pieces::flags_of))]
 pub(crate) fn validity_of<'a>(
     alloc: Global,
     nullable: bool,
@@ -92,7 +92,7 @@ pub(crate) fn validity_of<'a>(
     }
 }
 
-#[tactic(auto, unfolding(crate::specs::Pieces::plain_at))]
+#[tactic(auto, unfolding(vx_segment_spec::specs::Pieces::plain_at))]
 pub(crate) fn read_plain<'a>(
     alloc: Global,
     dtype: &DType,
@@ -111,7 +111,7 @@ pub(crate) fn read_plain<'a>(
     Ok((Chunk::plain(dtype, cells), rest))
 }
 
-#[tactic(auto, unfolding(crate::specs::Pieces::constant_at))]
+#[tactic(auto, unfolding(vx_segment_spec::specs::Pieces::constant_at))]
 pub(crate) fn read_constant<'a>(
     alloc: Global,
     dtype: &DType,
@@ -138,7 +138,7 @@ pub(crate) fn encoding_at(frame: &Frame, index: u16) -> Option<EncodingId>
 }
 
 /// A plain or a constant chunk.
-#[tactic(auto, unfolding(crate::specs::Pieces::simple_at))]
+#[tactic(auto, unfolding(vx_segment_spec::specs::Pieces::simple_at))]
 pub(crate) fn read_simple<'a>(
     frame: &Frame,
     dtype: &DType,

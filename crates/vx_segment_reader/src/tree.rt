@@ -3,7 +3,7 @@
 ghost use Rattle.std.specs.Prelude.{◌≡◌, ◌-◌, length, map};
 ghost use Rattle.std.specs.Int.{w16, w64};
 ghost use Rattle.vx_byte_reader.specs.Places.{many_at};
-ghost use Rattle.vx_segment_reader.specs.Reading.{number_at, byte_at, flag_at, node_at, nodes_at, tree_at};
+ghost use Rattle.vx_segment_spec.specs.Reading.{number_at, byte_at, flag_at, node_at, nodes_at, tree_at};
 ghost use Rattle.vx_segment_reader.specs.Views.{Gives, head, raw_tree};
 ghost use Rattle.vx_segment_reader.specs.declared.error.DecodeError.TheVariants.{Grammar};
 
@@ -74,7 +74,7 @@ fn lengths_at(
     Ok((lengths, rest))
 }
 
-#[tactic(auto, unfolding(crate::specs::Reading::node_at))]
+#[tactic(auto, unfolding(vx_segment_spec::specs::Reading::node_at))]
 fn read_node(alloc: Global, stop: u64, bytes: &[u8]) -> Result<(Node, &[u8]), DecodeError>
     ensures { Gives (λ x. (head x.0, x.1.now)) result (node_at stop bytes.now) }
 {
@@ -120,7 +120,7 @@ fn read_nodes(alloc: Global, stop: u64, bytes: &[u8]) -> Result<(Vec<Node>, &[u8
 }
 
 /// The tree that the bytes spell, all of the bytes, which end at the place `stop`.
-#[tactic(auto, unfolding(crate::specs::Reading::tree_at))]
+#[tactic(auto, unfolding(vx_segment_spec::specs::Reading::tree_at))]
 pub(crate) fn read_tree(alloc: Global, stop: u64, bytes: &[u8]) -> Result<EncodingTree, DecodeError>
     ensures { Gives raw_tree result (tree_at stop bytes.now) }
 {

@@ -1,7 +1,7 @@
 -- What the setting of writes keeps.
 use Rattle.std.proofs.Common.{◌∙◌}
 use Rattle.vx_zone_spec.proofs.HashLaws.{hash_is_small}
-use Rattle.vx_segment_reader.proofs.SegmentLaws.{is_lawful}
+use Rattle.vx_segment_spec.proofs.SegmentLaws.{is_lawful}
 use Rattle.vx_setting.specs.Setting.{RealKeeps, RealHashIsSmall}
 
 pub real_keeps : RealKeeps

@@ -6,7 +6,7 @@ use Rattle.vx_model.specs.ChunkData.{ChunkData}
 use Rattle.vx_hash.specs.XxHash3.{xxhash3_64}
 use Rattle.vx_layout_spec.specs.Real.{Whole, SameRows}
 use Rattle.vx_zone_spec.specs.Statements.{SmallHash}
-use Rattle.vx_segment_reader.specs.Codec.{segment_codec}
+use Rattle.vx_segment_spec.specs.Codec.{segment_codec}
 use Rattle.vx_plan.specs.PlanData.{Setting}
 use Rattle.vx_plan.specs.Valid.{Keeps}
 

@@ -1,5 +1,5 @@
 use Rattle.std.proofs.Common.{◌≡◌, ◌++◌, drop, map}
-use Rattle.vx_segment_reader.specs.Segment.{lengths_of}
+use Rattle.vx_segment_spec.specs.Segment.{lengths_of}
 use Rattle.vx_segment_reader.specs.Views.{head}
 use Rattle.vx_segment_reader.proofs.buffers.all_lengths.Given as goal
 

@@ -1,7 +1,7 @@
 use Rattle.std.proofs.Common.{◌≡◌, ◌++◌, ◌∷◌, [], ℕ, List, Bor, length, get_or, map, refl}
 use Rattle.std.proofs.lemmas.Result.{err_from_is_err_and}
 use Rattle.std.proofs.lemmas.List.{map_push}
-use Rattle.vx_segment_reader.specs.Segment.{buffers_at}
+use Rattle.vx_segment_spec.specs.Segment.{buffers_at}
 use Rattle.vx_segment_reader.proofs.BufferSteps.{place_of_rest, buffers_go_on, buffers_end, buffers_done, buffers_left, is_some, is_none}
 use Rattle.vx_segment_reader.proofs.buffers.read_buffers.Goals as goal
 

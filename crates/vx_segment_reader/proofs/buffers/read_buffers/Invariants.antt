@@ -1,5 +1,5 @@
 use Rattle.std.proofs.Common.{◌≡◌, ◌≤◌, length, drop, map}
-use Rattle.vx_segment_reader.specs.Segment.{buffers_at}
+use Rattle.vx_segment_spec.specs.Segment.{buffers_at}
 use Rattle.vx_segment_reader.proofs.BufferSteps.{with_buffers, place_of_rest}
 use Rattle.vx_segment_reader.proofs.buffers.read_buffers.Given as goal
 

@@ -1,5 +1,5 @@
 use Rattle.std.proofs.Common.{arith}
-use Rattle.vx_segment_reader.specs.Segment.{set_byte}
+use Rattle.vx_segment_spec.specs.Segment.{set_byte}
 use Rattle.vx_segment_reader.proofs.BufferSteps.{set_found, set_not_yet, set_nowhere}
 use Rattle.vx_segment_reader.proofs.buffers.set_byte.Goals as goal
 

@@ -1,6 +1,6 @@
 use Rattle.std.proofs.Common.{◌<◌, ◌^◌, length, refl, rules}
 use Rattle.vx_model.specs.ChunkData.{joined_cells, pieces_of}
-use Rattle.vx_segment_reader.proofs.PieceTypes.{not_rows}
+use Rattle.vx_segment_spec.proofs.PieceTypes.{not_rows}
 use Rattle.vx_segment_reader.proofs.made.made_chunked.Goals as goal
 
 pub chunked-requires : goal.chunked-requires

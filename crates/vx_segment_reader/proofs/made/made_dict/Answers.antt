@@ -3,7 +3,7 @@ use Rattle.std.specs.Prelude.{◌==◌}
 use Rattle.std.proofs.lemmas.Bool.{and_parts}
 use Rattle.vx_model.specs.Words.{all_by}
 use Rattle.vx_model.specs.ChunkData.{cells, is_code}
-use Rattle.vx_segment_reader.proofs.PieceTypes.{makes}
+use Rattle.vx_segment_spec.proofs.PieceTypes.{makes}
 use Rattle.vx_segment_reader.proofs.made.made_dict.Goals as goal
 
 pub dict-requires : goal.dict-requires

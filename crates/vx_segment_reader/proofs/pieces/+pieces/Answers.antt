@@ -4,9 +4,9 @@ use Rattle.vx_model.specs.declared.dtype.DType as dt
 use Rattle.vx_model.specs.Ty.{tys_of, nullable}
 use Rattle.vx_model.specs.TyView.{ty, field_ty}
 use Rattle.vx_model.proofs.Views.{ty_extension}
-use Rattle.vx_segment_reader.specs.Pieces.{pieces_at, part_at, own_of, columns_at}
+use Rattle.vx_segment_spec.specs.Pieces.{pieces_at, part_at, own_of, columns_at}
 use Rattle.vx_segment_reader.specs.Views.{frame, rest, head}
-use Rattle.vx_segment_reader.proofs.PieceTypes.{parts_typed, piece_typed, list_elements, flags_count, struct_made, storage_made}
+use Rattle.vx_segment_spec.proofs.PieceTypes.{parts_typed, piece_typed, list_elements, flags_count, struct_made, storage_made}
 use Rattle.vx_segment_reader.proofs.PieceSteps.{own_rules, storage_of, parts_go_on, parts_end, parts_done, columns_go_on, columns_end, columns_done}
 use Rattle.vx_segment_reader.proofs.pieces.+pieces.Goals as goal
 

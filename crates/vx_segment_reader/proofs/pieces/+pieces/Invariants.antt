@@ -1,7 +1,7 @@
 use Rattle.std.proofs.Common.{◌≡◌, ◌+◌, ◌-◌, ◌*◌, map}
 use Rattle.vx_model.specs.Ty.{tys_of}
 use Rattle.vx_model.specs.TyView.{ty, field_ty}
-use Rattle.vx_segment_reader.specs.Pieces.{pieces_at, part_at, own_of, columns_at}
+use Rattle.vx_segment_spec.specs.Pieces.{pieces_at, part_at, own_of, columns_at}
 use Rattle.vx_segment_reader.specs.TypeDepth.{ty_depth, tys_depth}
 use Rattle.vx_segment_reader.specs.Views.{frame, rest}
 use Rattle.vx_segment_reader.proofs.PieceSteps.{with_more, columns_from}

@@ -1,5 +1,5 @@
 use Rattle.std.proofs.Common.{◌≡◌, drop}
-use Rattle.vx_segment_reader.specs.Pieces.{have_rows}
+use Rattle.vx_segment_spec.specs.Pieces.{have_rows}
 use Rattle.vx_segment_reader.proofs.pieces.have_rows.Given as goal
 
 abbrev pub invariant-loop-chunk : goal.invariant-loop-chunk

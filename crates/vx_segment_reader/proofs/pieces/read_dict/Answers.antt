@@ -4,7 +4,7 @@ use Rattle.std.proofs.lemmas.Bool.{and_parts}
 use Rattle.vx_model.specs.TyView.{ty}
 use Rattle.vx_model.specs.ChunkData.{piece_type, is_dict_type}
 use Rattle.vx_segment_reader.specs.Views.{frame, head}
-use Rattle.vx_segment_reader.proofs.PieceTypes.{simple_typed, codes_typed}
+use Rattle.vx_segment_spec.proofs.PieceTypes.{simple_typed, codes_typed}
 use Rattle.vx_segment_reader.proofs.pieces.read_dict.Goals as goal
 
 pub made_dict-requires : goal.made_dict-requires

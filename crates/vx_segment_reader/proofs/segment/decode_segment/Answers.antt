@@ -2,7 +2,7 @@ use Rattle.std.proofs.Common.{◌≡◌, arith, ap, subst, sym, List}
 use Rattle.vx_model.specs.declared.encoding.EncodingId.{EncodingId}
 use Rattle.vx_model.specs.TyView.{ty}
 use Rattle.vx_model.specs.ChunkData.{ChunkData}
-use Rattle.vx_segment_reader.specs.Segment.{decode}
+use Rattle.vx_segment_spec.specs.Segment.{decode}
 use Rattle.vx_segment_reader.specs.Views.{Gives}
 use Rattle.vx_segment_reader.proofs.Answering.{is_found, is_only}
 use Rattle.vx_segment_reader.proofs.segment.decode_segment.Goals as goal

@@ -1,7 +1,7 @@
 use Rattle.std.proofs.lemmas.Result.{err_from_is_err_and}
 use Rattle.std.specs.Int.{w64}
 use Rattle.vx_byte_reader.specs.Places.{many_at}
-use Rattle.vx_segment_reader.specs.Reading.{number_at}
+use Rattle.vx_segment_spec.specs.Reading.{number_at}
 use Rattle.vx_byte_reader.proofs.PlaceLoops.{many_goes_on, many_done}
 use Rattle.vx_segment_reader.proofs.Loops.{many_ends}
 use Rattle.vx_segment_reader.proofs.tree.lengths_at.Goals as goal

@@ -1,7 +1,7 @@
 use Rattle.std.proofs.Common.{◌≡◌, ◌-◌}
 use Rattle.std.specs.Int.{w64}
 use Rattle.vx_byte_reader.specs.Places.{many_at}
-use Rattle.vx_segment_reader.specs.Reading.{number_at}
+use Rattle.vx_segment_spec.specs.Reading.{number_at}
 use Rattle.vx_byte_reader.proofs.PlaceLoops.{with_front}
 use Rattle.vx_segment_reader.proofs.tree.lengths_at.Given as goal
 

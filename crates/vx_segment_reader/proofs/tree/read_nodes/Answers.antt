@@ -1,7 +1,7 @@
 use Rattle.std.proofs.Common.{◌≡◌, ◌-◌, ◌++◌, ◌∷◌, [], length, map, arith}
 use Rattle.std.proofs.lemmas.Result.{err_from_is_err_and}
 use Rattle.std.proofs.lemmas.List.{map_push}
-use Rattle.vx_segment_reader.specs.Reading.{nodes_at}
+use Rattle.vx_segment_spec.specs.Reading.{nodes_at}
 use Rattle.vx_segment_reader.specs.Views.{head}
 use Rattle.vx_segment_reader.proofs.Loops.{nodes_go_on, nodes_end, nodes_done, nodes_short}
 use Rattle.vx_segment_reader.proofs.tree.read_nodes.Goals as goal

@@ -1,5 +1,5 @@
 use Rattle.std.proofs.Common.{◌≡◌, ◌-◌, ◌+◌, ◌*◌, ◌≤◌, ◌^◌, length, map}
-use Rattle.vx_segment_reader.specs.Reading.{nodes_at}
+use Rattle.vx_segment_spec.specs.Reading.{nodes_at}
 use Rattle.vx_segment_reader.specs.Views.{head}
 use Rattle.vx_byte_reader.proofs.PlaceLoops.{with_front}
 use Rattle.vx_segment_reader.proofs.tree.read_nodes.Given as goal

@@ -28,9 +28,9 @@ use Rattle.vx_cell_codec.specs.Columns.{ascend, offsets_at, flags_at, AreOffsets
 use Rattle.vx_cell_codec.proofs.FilledLaws.{cells_again, only_again}
 use Rattle.vx_cell_codec.proofs.ColumnLaws.{offsets_again, flags_again}
 use Rattle.vx_byte_reader.specs.Places.{◌>>=◌}
-use Rattle.vx_segment_reader.specs.Reading.{Fault}
-use Rattle.vx_segment_reader.specs.Pieces.{Rest, Frame, number, unless_bad, given, node_of, buffer_of, is_shaped, flag_buffers, flags_of, pieces_at, plain_at, constant_at, code_type, simple_of, simple_at, are_codes, dict_at, chunked_at, list_at, have_rows, struct_at, extension_at, part_of, part_at, whole_of, whole_at, no_pieces_at, piece_then, own_of, columns_at, piece_at}
-use Rattle.vx_segment_reader.proofs.PieceTypes.{same_type}
+use Rattle.vx_segment_spec.specs.Reading.{Fault}
+use Rattle.vx_segment_spec.specs.Pieces.{Rest, Frame, number, unless_bad, given, node_of, buffer_of, is_shaped, flag_buffers, flags_of, pieces_at, plain_at, constant_at, code_type, simple_of, simple_at, are_codes, dict_at, chunked_at, list_at, have_rows, struct_at, extension_at, part_of, part_at, whole_of, whole_at, no_pieces_at, piece_then, own_of, columns_at, piece_at}
+use Rattle.vx_segment_spec.proofs.PieceTypes.{same_type}
 
 abbrev pub rest_of : List Head → List (List ℕ) → Rest
 rest_of ns bs = record { nodes = ns; buffers = bs }

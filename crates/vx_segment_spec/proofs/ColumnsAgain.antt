@@ -19,10 +19,10 @@ use Rattle.vx_segment_writer.specs.Segment.{validity_buffer, own_buffers, buffer
 use Rattle.vx_cell_codec.specs.Columns.{ascend, offsets_at, flags_at, AreOffsets, AreFlags}
 use Rattle.vx_cell_codec.proofs.ColumnLaws.{offsets_again, flags_again}
 use Rattle.vx_byte_reader.specs.Places.{◌>>=◌}
-use Rattle.vx_segment_reader.specs.Reading.{Fault}
-use Rattle.vx_segment_reader.specs.Pieces.{Rest, Frame, number, flags_of, list_at, have_rows, struct_at, extension_at, no_pieces_at, piece_then, count_fields, own_of, columns_at, piece_at}
-use Rattle.vx_segment_reader.proofs.AgainLaws.{rest_of, Ready, ReadyAll, placed, own_listed, none_of, at_part, at_whole, plain_again, constant_again, dict_again, PartAgain, WholeAgain, Again, pieces_of-pieces_in, chunked_again}
-use Rattle.vx_segment_reader.proofs.RowsFit.{rows_fit}
+use Rattle.vx_segment_spec.specs.Reading.{Fault}
+use Rattle.vx_segment_spec.specs.Pieces.{Rest, Frame, number, flags_of, list_at, have_rows, struct_at, extension_at, no_pieces_at, piece_then, count_fields, own_of, columns_at, piece_at}
+use Rattle.vx_segment_spec.proofs.AgainLaws.{rest_of, Ready, ReadyAll, placed, own_listed, none_of, at_part, at_whole, plain_again, constant_again, dict_again, PartAgain, WholeAgain, Again, pieces_of-pieces_in, chunked_again}
+use Rattle.vx_segment_spec.proofs.RowsFit.{rows_fit}
 
 -- ---- flags
 

@@ -6,8 +6,8 @@ use Rattle.vx_model.specs.declared.ptype.PType.TheVariants.{I64}
 use Rattle.vx_model.specs.Ty.{primitive}
 use Rattle.vx_model.specs.CellData.{int_cell}
 use Rattle.vx_model.specs.ChunkData.{ChunkData, plain_piece}
-use Rattle.vx_segment_reader.specs.Reading.{Fault}
-use Rattle.vx_segment_reader.specs.Segment.{decode}
+use Rattle.vx_segment_spec.specs.Reading.{Fault}
+use Rattle.vx_segment_spec.specs.Segment.{decode}
 
 abbrev pub two_encodings : List EncodingId
 two_encodings = Plain ∷ Constant ∷ []

@@ -13,10 +13,10 @@ use Rattle.vx_chunk.specs.Encoded.{encoding_of}
 use Rattle.vx_chunk.proofs.Sound.{of_dict, of_chunked, of_list, of_struct, of_extension}
 use Rattle.vx_segment_writer.specs.Head.{Head}
 use Rattle.vx_segment_writer.specs.Segment.{padding_at, laid_out, validity_buffer, own_buffers, buffers, buffers_below, count_pieces, child_count, head_of, heads, heads_below}
-use Rattle.vx_segment_reader.specs.Segment.{lengths_of}
-use Rattle.vx_segment_reader.specs.Spelled.{are_trees, IsHead}
-use Rattle.vx_segment_reader.proofs.BufferLaws.{lengths}
-use Rattle.vx_segment_reader.proofs.RowsFit.{rows_fit}
+use Rattle.vx_segment_spec.specs.Segment.{lengths_of}
+use Rattle.vx_segment_spec.specs.Spelled.{are_trees, IsHead}
+use Rattle.vx_segment_spec.proofs.BufferLaws.{lengths}
+use Rattle.vx_segment_spec.proofs.RowsFit.{rows_fit}
 
 -- ---- one tree
 

@@ -12,13 +12,13 @@ use Rattle.vx_model.specs.ChunkData.{ChunkData, pieces_of}
 use Rattle.vx_segment_writer.specs.Head.{Head}
 use Rattle.vx_segment_writer.specs.Segment.{buffers, buffers_below, heads, heads_below, refused, refused_below}
 use Rattle.vx_byte_reader.specs.Places.{◌>>=◌}
-use Rattle.vx_segment_reader.specs.Reading.{Fault}
-use Rattle.vx_segment_reader.specs.Pieces.{Rest, Frame, number, node_of, list_own, struct_own, extension_own, part_of, part_at, whole_of, whole_at, no_pieces_at, piece_then, count_fields, own_of, columns_at, piece_at}
+use Rattle.vx_segment_spec.specs.Reading.{Fault}
+use Rattle.vx_segment_spec.specs.Pieces.{Rest, Frame, number, node_of, list_own, struct_own, extension_own, part_of, part_at, whole_of, whole_at, no_pieces_at, piece_then, count_fields, own_of, columns_at, piece_at}
 use Rattle.vx_byte_reader.proofs.PlaceLaws.{bind_ok, ok_is}
-use Rattle.vx_segment_reader.proofs.Contexts.{listed_push}
-use Rattle.vx_segment_reader.proofs.PieceTypes.{just}
-use Rattle.vx_segment_reader.proofs.PieceLaws.{Fine, Begun, Took, TookPiece, TookAll, took_then, took_nothing, At, plain_takes, constant_takes}
-use Rattle.vx_segment_reader.proofs.EncodingLaws.{Takes, TakesAll, Indexed, FirstNode, node_is, begun_at, took_at, dict_takes, chunked_takes, list_takes, struct_takes, extension_takes}
+use Rattle.vx_segment_spec.proofs.Contexts.{listed_push}
+use Rattle.vx_segment_spec.proofs.PieceTypes.{just}
+use Rattle.vx_segment_spec.proofs.PieceLaws.{Fine, Begun, Took, TookPiece, TookAll, took_then, took_nothing, At, plain_takes, constant_takes}
+use Rattle.vx_segment_spec.proofs.EncodingLaws.{Takes, TakesAll, Indexed, FirstNode, node_is, begun_at, took_at, dict_takes, chunked_takes, list_takes, struct_takes, extension_takes}
 
 -- ---- the encodings of one kind of type
 

@@ -13,22 +13,22 @@ use Rattle.vx_layout_spec.specs.Real.{Whole}
 use Rattle.vx_segment_writer.specs.Head.{Head, head_spelling}
 use Rattle.vx_segment_writer.specs.Segment.{laid_out, buffers, heads, tree_bytes, segment_bytes, refused, bytes_unless, encode}
 use Rattle.vx_byte_reader.specs.Places.{◌>>=◌}
-use Rattle.vx_segment_reader.specs.Reading.{Fault, RawTree, tree_at}
-use Rattle.vx_segment_reader.specs.Spelled.{are_trees, tree_spelling, IsHead}
-use Rattle.vx_segment_reader.specs.Pieces.{Rest, Frame, piece_at}
-use Rattle.vx_segment_reader.specs.Segment.{buffers_at, halves_of, lengths_of, Raw, raw_of, piece_in, decode}
-use Rattle.vx_segment_reader.specs.Codec.{IsSegment, cells_read, segment_codec}
+use Rattle.vx_segment_spec.specs.Reading.{Fault, RawTree, tree_at}
+use Rattle.vx_segment_spec.specs.Spelled.{are_trees, tree_spelling, IsHead}
+use Rattle.vx_segment_spec.specs.Pieces.{Rest, Frame, piece_at}
+use Rattle.vx_segment_spec.specs.Segment.{buffers_at, halves_of, lengths_of, Raw, raw_of, piece_in, decode}
+use Rattle.vx_segment_spec.specs.Codec.{IsSegment, cells_read, segment_codec}
 use Rattle.vx_byte_reader.proofs.FieldLaws.{IsBytes}
 use Rattle.vx_byte_reader.proofs.PlaceLaws.{bind_ok, ok_is}
-use Rattle.vx_segment_reader.proofs.TreeLaws.{enough, tree_takes, tree_again}
-use Rattle.vx_segment_reader.proofs.BufferLaws.{lengths, buffers_take, buffers_again, halves_take, halves_again}
-use Rattle.vx_segment_reader.proofs.Contexts.{place_fits}
-use Rattle.vx_segment_reader.proofs.PieceTypes.{piece_typed}
-use Rattle.vx_segment_reader.proofs.PieceLaws.{Fine, TookPiece}
-use Rattle.vx_segment_reader.proofs.TypeLaws.{piece_takes, indexed_by}
-use Rattle.vx_segment_reader.proofs.AgainLaws.{rest_of, Ready}
-use Rattle.vx_segment_reader.proofs.EveryAgain.{again_of}
-use Rattle.vx_segment_reader.proofs.HeadLaws.{heads_tree, one_tree, nothing_left, lengths_told, heads_fit, laid_short}
+use Rattle.vx_segment_spec.proofs.TreeLaws.{enough, tree_takes, tree_again}
+use Rattle.vx_segment_spec.proofs.BufferLaws.{lengths, buffers_take, buffers_again, halves_take, halves_again}
+use Rattle.vx_segment_spec.proofs.Contexts.{place_fits}
+use Rattle.vx_segment_spec.proofs.PieceTypes.{piece_typed}
+use Rattle.vx_segment_spec.proofs.PieceLaws.{Fine, TookPiece}
+use Rattle.vx_segment_spec.proofs.TypeLaws.{piece_takes, indexed_by}
+use Rattle.vx_segment_spec.proofs.AgainLaws.{rest_of, Ready}
+use Rattle.vx_segment_spec.proofs.EveryAgain.{again_of}
+use Rattle.vx_segment_spec.proofs.HeadLaws.{heads_tree, one_tree, nothing_left, lengths_told, heads_fit, laid_short}
 
 -- what is known of a segment that was read
 record IsRaw (bytes : List ℕ) (r : Raw) : Type 0 where

@@ -7,13 +7,13 @@ use Rattle.std.proofs.lemmas.List.{append-nil, nil_from_length, length-append}
 use Rattle.vx_model.specs.Words.{joined_by}
 use Rattle.vx_model.specs.CellData.{bit, u64_bytes}
 use Rattle.vx_byte_reader.specs.Places.{◌>>=◌, many_at}
-use Rattle.vx_segment_reader.specs.Reading.{bad_grammar, number_at, byte_at, flag_at, node_at, nodes_at, RawTree, tree_at}
+use Rattle.vx_segment_spec.specs.Reading.{bad_grammar, number_at, byte_at, flag_at, node_at, nodes_at, RawTree, tree_at}
 use Rattle.vx_segment_writer.specs.Head.{Head}
 use Rattle.vx_segment_writer.specs.Head.{head_spelling}
-use Rattle.vx_segment_reader.specs.Spelled.{are_trees, tree_spelling, IsHead}
+use Rattle.vx_segment_spec.specs.Spelled.{are_trees, tree_spelling, IsHead}
 use Rattle.vx_byte_reader.proofs.FieldLaws.{IsBytes, Takes, Takes-then}
 use Rattle.vx_byte_reader.proofs.PlaceLaws.{bind_ok, guard_ended, ok_is, many_takes, many_again}
-use Rattle.vx_segment_reader.proofs.Fields.{reads_u16, reads_u64, reads_byte, reads_flag}
+use Rattle.vx_segment_spec.proofs.Fields.{reads_u16, reads_u64, reads_byte, reads_flag}
 
 node_takes : (stop : ℕ) (bytes : List ℕ) (x : Head × List ℕ) → IsBytes bytes → node_at stop bytes ≡ Ok x → Takes bytes (head_spelling x.0) x.1
 unfolding node_at

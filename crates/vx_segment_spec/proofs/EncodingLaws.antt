@@ -20,14 +20,14 @@ use Rattle.vx_segment_writer.proofs.Steps.{count_is}
 use Rattle.vx_cell_codec.specs.Columns.{offsets_at, flags_at}
 use Rattle.vx_cell_codec.proofs.ColumnLaws.{offsets_take, flags_take}
 use Rattle.vx_byte_reader.specs.Places.{◌>>=◌}
-use Rattle.vx_segment_reader.specs.Reading.{Fault}
-use Rattle.vx_segment_reader.specs.Segment.{lengths_of}
-use Rattle.vx_segment_reader.specs.Pieces.{Rest, Frame, number, unless_bad, given, first_node, node_of, buffer_of, is_shaped, flag_buffers, flags_of, pieces_at, code_type, simple_of, simple_at, are_codes, dict_at, chunked_at, list_at, have_rows, struct_at, extension_at}
+use Rattle.vx_segment_spec.specs.Reading.{Fault}
+use Rattle.vx_segment_spec.specs.Segment.{lengths_of}
+use Rattle.vx_segment_spec.specs.Pieces.{Rest, Frame, number, unless_bad, given, first_node, node_of, buffer_of, is_shaped, flag_buffers, flags_of, pieces_at, code_type, simple_of, simple_at, are_codes, dict_at, chunked_at, list_at, have_rows, struct_at, extension_at}
 use Rattle.vx_byte_reader.proofs.FieldLaws.{IsBytes}
 use Rattle.vx_byte_reader.proofs.PlaceLaws.{bind_ok, ok_is}
-use Rattle.vx_segment_reader.proofs.BufferLaws.{lengths}
-use Rattle.vx_segment_reader.proofs.PieceTypes.{unless_ok, given_ok, just, simple_typed}
-use Rattle.vx_segment_reader.proofs.PieceLaws.{Fine, Begun, Took, TookPiece, TookAll, took_then, took_nothing, At, head_is, node_took, no_lengths, is_nil, Buffer, buffer_is, Shape, shape_of, begun_fine, OneLeft, one_left, plain_takes, constant_takes}
+use Rattle.vx_segment_spec.proofs.BufferLaws.{lengths}
+use Rattle.vx_segment_spec.proofs.PieceTypes.{unless_ok, given_ok, just, simple_typed}
+use Rattle.vx_segment_spec.proofs.PieceLaws.{Fine, Begun, Took, TookPiece, TookAll, took_then, took_nothing, At, head_is, node_took, no_lengths, is_nil, Buffer, buffer_is, Shape, shape_of, begun_fine, OneLeft, one_left, plain_takes, constant_takes}
 
 -- a reader of chunks takes what it spells
 abbrev pub Takes : List EncodingId → (Rest → Result (ChunkData × Rest) Fault) → Type 0

@@ -5,8 +5,8 @@ use Rattle.vx_model.specs.CellData.{CellData}
 use Rattle.vx_model.specs.ChunkData.{ChunkData, cells}
 use Rattle.vx_segment_writer.specs.Segment.{encode, refused, tree_bytes}
 use Rattle.vx_layout_spec.specs.Codec.{Codec}
-use Rattle.vx_segment_reader.specs.Reading.{Fault}
-use Rattle.vx_segment_reader.specs.Segment.{decode}
+use Rattle.vx_segment_spec.specs.Reading.{Fault}
+use Rattle.vx_segment_spec.specs.Segment.{decode}
 
 -- the bytes are the chunk's segment, padded or not
 abbrev pub IsSegment : List EncodingId → ChunkData → List ℕ → Type 0

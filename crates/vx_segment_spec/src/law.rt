@@ -4,9 +4,9 @@ ghost use Rattle.std.specs.Prelude.{◌≡◌, List, None, Ok, Err};
 ghost use Rattle.vx_model.specs.declared.encoding.EncodingId.{EncodingId};
 ghost use Rattle.vx_model.specs.Distinct.{first_repeat};
 ghost use Rattle.vx_layout_spec.specs.Codec.{Lawful};
-ghost use Rattle.vx_segment_reader.specs.Codec.{segment_codec};
-ghost use Rattle.vx_segment_reader.specs.Reading.{bad_grammar, bad_type};
-ghost use Rattle.vx_segment_reader.specs.Examples.{one_and_two, as_integers, integers};
+ghost use Rattle.vx_segment_spec.specs.Codec.{segment_codec};
+ghost use Rattle.vx_segment_spec.specs.Reading.{bad_grammar, bad_type};
+ghost use Rattle.vx_segment_spec.specs.Examples.{one_and_two, as_integers, integers};
 
 /// A law, no work: in each context the codec of segments gives each whole chunk back.
 pub fn segments_read_back()

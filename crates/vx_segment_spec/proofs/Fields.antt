@@ -6,7 +6,7 @@ use Rattle.vx_byte_reader.specs.Fields as fields
 use Rattle.vx_byte_reader.proofs.FieldLaws as laws
 use Rattle.vx_byte_reader.proofs.FieldLaws.{one_byte, bit_byte, Any}
 use Rattle.vx_byte_reader.proofs.PlaceLaws.{Reads, placed}
-use Rattle.vx_segment_reader.specs.Reading.{bad_grammar, number_at, byte_at, flag_at}
+use Rattle.vx_segment_spec.specs.Reading.{bad_grammar, number_at, byte_at, flag_at}
 
 pub reads_u16 : (stop : ℕ) → Reads (number_at w16 stop) (to_le_bytes w16) (λ n. n < 2 ^ 16)
 reads_u16 stop = placed bad_grammar (fields.number_at w16) (to_le_bytes w16) (λ n. n < 2 ^ 16) stop laws.reads_u16

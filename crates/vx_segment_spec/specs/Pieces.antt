@@ -12,7 +12,7 @@ use Rattle.vx_segment_writer.specs.Head.{Head}
 use Rattle.vx_cell_codec.specs.Reading.{cells_at, only_cell_at}
 use Rattle.vx_cell_codec.specs.Columns.{offsets_at, flags_at}
 use Rattle.vx_byte_reader.specs.Places.{◌>>=◌}
-use Rattle.vx_segment_reader.specs.Reading.{Fault, bad_type}
+use Rattle.vx_segment_spec.specs.Reading.{Fault, bad_type}
 
 -- what is still to be read: nodes in pre-order, and their buffers
 pub record Rest : Type 0 where

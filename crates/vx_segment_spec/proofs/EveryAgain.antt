@@ -14,10 +14,10 @@ use Rattle.vx_layout_spec.specs.Real.{is_real, are_real}
 use Rattle.vx_chunk.proofs.Sound.{SoundDict, of_dict, of_chunked, of_list, of_struct, of_extension}
 use Rattle.vx_segment_writer.specs.Head.{Head}
 use Rattle.vx_segment_writer.specs.Segment.{own_buffers, buffers, buffers_below, head_of, heads, heads_below, own_refusal, refused, refused_below}
-use Rattle.vx_segment_reader.specs.Pieces.{Rest, Frame, number, part_of, whole_of, count_fields, own_of, columns_at, piece_at}
-use Rattle.vx_segment_reader.proofs.AgainLaws.{rest_of, Ready, ReadyAll, placed, own_listed, none_of, at_part, at_whole, plain_again, constant_again, dict_again, WholeAgain, Again, chunked_again}
-use Rattle.vx_segment_reader.proofs.ColumnsAgain.{flags_for, list_again, struct_again, extension_again}
-use Rattle.vx_segment_reader.proofs.RowsFit.{rows_fit}
+use Rattle.vx_segment_spec.specs.Pieces.{Rest, Frame, number, part_of, whole_of, count_fields, own_of, columns_at, piece_at}
+use Rattle.vx_segment_spec.proofs.AgainLaws.{rest_of, Ready, ReadyAll, placed, own_listed, none_of, at_part, at_whole, plain_again, constant_again, dict_again, WholeAgain, Again, chunked_again}
+use Rattle.vx_segment_spec.proofs.ColumnsAgain.{flags_for, list_again, struct_again, extension_again}
+use Rattle.vx_segment_spec.proofs.RowsFit.{rows_fit}
 
 plain_whole : (frame : Frame) (t : Ty) (cs : List CellData) → Ready frame.ids (plain_piece t cs) → Again frame (plain_piece t cs)
 plain_whole frame t cs ready =

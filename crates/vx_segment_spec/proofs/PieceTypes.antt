@@ -16,8 +16,8 @@ use Rattle.vx_segment_writer.specs.Head.{Head}
 use Rattle.vx_cell_codec.specs.Reading.{cells_at, only_cell_at}
 use Rattle.vx_cell_codec.specs.Columns.{offsets_at}
 use Rattle.vx_byte_reader.specs.Places.{◌>>=◌}
-use Rattle.vx_segment_reader.specs.Reading.{Fault}
-use Rattle.vx_segment_reader.specs.Pieces.{Rest, Frame, number, unless_bad, given, node_of, buffer_of, is_shaped, flag_buffers, flags_of, pieces_at, plain_at, constant_at, code_type, simple_of, simple_at, are_codes, dict_at, chunked_at, list_at, have_rows, struct_at, extension_at, Own, list_own, struct_own, extension_own, count_fields, part_of, part_at, whole_of, whole_at, no_pieces_at, piece_then, own_of, columns_at, piece_at}
+use Rattle.vx_segment_spec.specs.Reading.{Fault}
+use Rattle.vx_segment_spec.specs.Pieces.{Rest, Frame, number, unless_bad, given, node_of, buffer_of, is_shaped, flag_buffers, flags_of, pieces_at, plain_at, constant_at, code_type, simple_of, simple_at, are_codes, dict_at, chunked_at, list_at, have_rows, struct_at, extension_at, Own, list_own, struct_own, extension_own, count_fields, part_of, part_at, whole_of, whole_at, no_pieces_at, piece_then, own_of, columns_at, piece_at}
 use Rattle.vx_byte_reader.proofs.PlaceLaws.{bind_ok, ok_is}
 
 pub unless_ok : {A : Type 0} (k : ℕ) (b : Bool) (r : Result A Fault) (x : A) → unless_bad k b r ≡ Ok x → (b ≡ true) × (r ≡ Ok x)

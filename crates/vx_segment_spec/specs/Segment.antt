@@ -7,8 +7,8 @@ use Rattle.vx_model.specs.ChunkData.{ChunkData}
 use Rattle.vx_segment_writer.specs.Head.{Head}
 use Rattle.vx_segment_writer.specs.Segment.{padding_at}
 use Rattle.vx_byte_reader.specs.Places.{◌>>=◌}
-use Rattle.vx_segment_reader.specs.Reading.{Fault, bad_grammar, RawTree, tree_at}
-use Rattle.vx_segment_reader.specs.Pieces.{piece_at}
+use Rattle.vx_segment_spec.specs.Reading.{Fault, bad_grammar, RawTree, tree_at}
+use Rattle.vx_segment_spec.specs.Pieces.{piece_at}
 
 -- ---- the buffers, from the place `at` on
 

@@ -4,7 +4,7 @@ use Rattle.std.specs.List.{AllByRecursion}
 use Rattle.vx_model.specs.Words.{joined_by}
 use Rattle.vx_model.specs.CellData.{bit}
 use Rattle.vx_segment_writer.specs.Head.{Head, head_spelling}
-use Rattle.vx_segment_reader.specs.Reading.{RawTree}
+use Rattle.vx_segment_spec.specs.Reading.{RawTree}
 
 -- whether nodes in pre-order are so many whole trees
 abbrev pub are_trees : ℕ → List Head → Bool

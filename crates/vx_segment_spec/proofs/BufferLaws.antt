@@ -7,11 +7,22 @@ use Rattle.std.proofs.lemmas.List.{nil_from_length, length-append, length-take, 
 use Rattle.vx_model.specs.CellData.{u64_bytes}
 use Rattle.vx_segment_writer.specs.Segment.{padding_at, laid_out}
 use Rattle.vx_byte_reader.specs.Places.{◌>>=◌}
-use Rattle.vx_segment_reader.specs.Reading.{Fault, bad_grammar}
-use Rattle.vx_segment_reader.specs.Segment.{set_byte, buffer_at, buffers_at, halves_at, halves_of}
-use Rattle.vx_segment_reader.proofs.BufferSteps.{buffer_is}
+use Rattle.vx_segment_spec.specs.Reading.{Fault, bad_grammar}
+use Rattle.vx_segment_spec.specs.Segment.{set_byte, unless_set, buffer_at, buffers_at, halves_at, halves_of}
 use Rattle.vx_byte_reader.proofs.FieldLaws.{IsBytes, IsBytes-take, IsBytes-drop, wide64}
 use Rattle.vx_byte_reader.proofs.PlaceLaws.{bind_ok, guard_ended, ok_is}
+
+got : {A : Type 0} (set : Option ℕ) (short : Bool) (f : Fault) (x y : A) → unless_set set (cond short (Err f) (Ok x)) ≡ Ok y → (set ≡ None) × (short ≡ false) × (x ≡ y)
+got None true f x y e = absurd cc
+got None false f x y e = (refl, refl, cc)
+got (Some place) short f x y e = absurd cc
+
+-- what is known of a buffer that was read
+pub buffer_is : (padding at n : ℕ) (bytes b after : List ℕ) → buffer_at padding at n bytes ≡ Ok (b, after)
+    → (set_byte at (take padding bytes) ≡ None) × (padding + n ≤ length bytes) × (b ≡ take n (drop padding bytes)) × (after ≡ drop (padding + n) bytes)
+buffer_is padding at n bytes b after e =
+    let g = got (set_byte at (take padding bytes)) (ltb (length bytes) (padding + n)) (bad_grammar (at + padding)) (take n (drop padding bytes), drop (padding + n) bytes) (b, after) e in
+    (g.0, ltb-false _ _ g.1, sym (ap (λ (p : List ℕ × List ℕ). p.0) g.2), sym (ap (λ (p : List ℕ × List ℕ). p.1) g.2))
 
 padding_zeros : (padded : Bool) (at : ℕ) → padding_at padded at ≡ replicate (length (padding_at padded at)) 0
 padding_zeros true at = ap (λ (k : ℕ). replicate k 0) (sym (length-replicate ((8 - at % 8) % 8) 0))

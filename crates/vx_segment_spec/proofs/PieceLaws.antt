@@ -24,13 +24,13 @@ use Rattle.vx_cell_codec.specs.Columns.{offsets_at, flags_at}
 use Rattle.vx_cell_codec.proofs.FilledLaws.{cells_take, only_take}
 use Rattle.vx_cell_codec.proofs.ColumnLaws.{offsets_take, flags_take}
 use Rattle.vx_byte_reader.specs.Places.{◌>>=◌}
-use Rattle.vx_segment_reader.specs.Reading.{Fault, bad_type}
-use Rattle.vx_segment_reader.specs.Segment.{lengths_of}
-use Rattle.vx_segment_reader.specs.Pieces.{Rest, Frame, number, unless_bad, given, node_of, first_buffer, buffer_of, is_shaped, flag_buffers, flags_of, pieces_at, plain_at, constant_at, code_type, simple_of, simple_at, are_codes, dict_at, chunked_at, list_at, have_rows, struct_at, extension_at, list_own, struct_own, extension_own, part_of, part_at, whole_of, whole_at, no_pieces_at, piece_then, count_fields, own_of, columns_at, piece_at}
+use Rattle.vx_segment_spec.specs.Reading.{Fault, bad_type}
+use Rattle.vx_segment_spec.specs.Segment.{lengths_of}
+use Rattle.vx_segment_spec.specs.Pieces.{Rest, Frame, number, unless_bad, given, node_of, first_buffer, buffer_of, is_shaped, flag_buffers, flags_of, pieces_at, plain_at, constant_at, code_type, simple_of, simple_at, are_codes, dict_at, chunked_at, list_at, have_rows, struct_at, extension_at, list_own, struct_own, extension_own, part_of, part_at, whole_of, whole_at, no_pieces_at, piece_then, count_fields, own_of, columns_at, piece_at}
 use Rattle.vx_byte_reader.proofs.FieldLaws.{IsBytes}
 use Rattle.vx_byte_reader.proofs.PlaceLaws.{bind_ok, ok_is}
-use Rattle.vx_segment_reader.proofs.BufferLaws.{lengths}
-use Rattle.vx_segment_reader.proofs.PieceTypes.{unless_ok, given_ok, simple_typed}
+use Rattle.vx_segment_spec.proofs.BufferLaws.{lengths}
+use Rattle.vx_segment_spec.proofs.PieceTypes.{unless_ok, given_ok, simple_typed}
 
 -- what is known of what is still to be read: buffers are bytes, of the lengths that the nodes tell
 pub record Fine (rest : Rest) : Type 0 where

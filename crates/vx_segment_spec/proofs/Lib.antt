@@ -1,0 +1,14 @@
+pub mod PieceTypes
+pub mod PieceLaws
+pub mod EncodingLaws
+pub mod TypeLaws
+pub mod AgainLaws
+pub mod RowsFit
+pub mod ColumnsAgain
+pub mod EveryAgain
+pub mod HeadLaws
+pub mod SegmentLaws
+pub mod Fields
+pub mod TreeLaws
+pub mod BufferLaws
+pub mod Contexts
