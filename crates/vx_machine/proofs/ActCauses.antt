@@ -5,7 +5,7 @@ use Rattle.vx_tasks.specs.Task.{Kind}
 use Rattle.vx_write_answer.specs.declared.error.WriteError.{WriteError}
 use Rattle.vx_write_answer.specs.declared.error.WriteError.TheVariants.{SourceFault, SinkFault, CompressFault, BatchType, NotStruct, DuplicateField, ManyChunks, EmptyList, ZoneCut, ForbiddenAggregate, ForbiddenEncoding, TooLarge, OutOfMemory, Stopped}
 use Rattle.vx_machine_node.specs.Causes.{ActMay}
-use Rattle.vx_machine_acts.specs.Acting.{CallFails}
+use Rattle.vx_machine_tasks.specs.Acting.{CallFails}
 use Rattle.vx_machine.specs.Source.{SourceMay}
 use Rattle.vx_machine.specs.SourceActs.{IsElsewhere}
 use Rattle.vx_machine.specs.Whole.{StepMay}

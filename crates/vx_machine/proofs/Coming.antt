@@ -26,7 +26,7 @@ use Rattle.vx_machine_runs.proofs.Coursing.{asked_before}
 use Rattle.vx_machine_nodes.specs.Acting.{IsAppended, Behind}
 use Rattle.vx_machine_node.specs.Context.{Allowed, setting_of}
 use Rattle.vx_machine_node.specs.View.{form_at}
-use Rattle.vx_machine_start.specs.Starting.{IsAllowed}
+use Rattle.vx_machine_tasks.specs.Starting.{IsAllowed}
 use Rattle.vx_machine.specs.Progress.{HasCome, Begins, NeverStuck, IsFront, numbers_from, GoesOnFrom, LeadsOn, StepsOn}
 use Rattle.vx_machine.specs.Run.{ready_at}
 use Rattle.vx_machine.specs.SourceActs.{AsksAt, Tells}

@@ -14,3 +14,4 @@ pub mod RunSteps
 pub mod Fewness
 pub mod Going
 pub mod Coming
+pub use Rattle.vx_machine_node.proofs.LedgerSteps

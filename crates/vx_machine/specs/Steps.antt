@@ -14,7 +14,7 @@ use Rattle.vx_sink.specs.declared.context.LayoutWriterContext.{LayoutWriterConte
 use Rattle.vx_machine_node.specs.Context.{setting_of}
 use Rattle.vx_machine_node.specs.Outcome.{action_of, AllFit, Refused}
 use Rattle.vx_machine_nodes.specs.Acting.{Behind}
-use Rattle.vx_machine_acts.specs.Acting.{CallFails}
+use Rattle.vx_machine_tasks.specs.Acting.{CallFails}
 use Rattle.vx_machine.specs.SourceActs.{AsksAt, Tells, TellsRefused}
 
 -- The step at this place was done: what the source told in it, and what it wrote.

@@ -8,3 +8,4 @@ mod table_start;
 pub use chunked::take_chunked;
 pub use dict_start::{start_codes, start_fallback, start_values};
 pub use table_start::start_table;
+pub use vx_machine_start::start_task;

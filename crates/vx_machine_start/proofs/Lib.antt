@@ -5,3 +5,4 @@ pub mod StartShows
 pub mod StartRows
 pub mod StartKinds
 pub mod StartRooms
+pub use Rattle.vx_machine_fresh.proofs.StartCauses

@@ -46,12 +46,12 @@ use Rattle.vx_machine_nodes.proofs.RefusalSteps.{any_past}
 use Rattle.vx_machine_task.specs.declared.task.Task.{Task, out-Task}
 use Rattle.vx_machine_task.specs.Ledger.{task_reserved, tasks_reserved}
 use Rattle.vx_machine_task.specs.Ready.{kid_of, kids_of, room_at}
-use Rattle.vx_machine_start.specs.Starting.{IsAllowed, KidStarted, StartRefused, FormRefused}
+use Rattle.vx_machine_children.specs.Starting.{IsAllowed, KidStarted, StartRefused, FormRefused}
 use Rattle.vx_machine_task.specs.Stocks.{task_stock, tasks_stock}
 use Rattle.vx_machine_task.specs.View.{desk_of, task_row, row}
 use Rattle.vx_machine_children.proofs.DictStarts.{fault_why}
 use Rattle.vx_machine_task.proofs.PaidSteps.{at_same}
-use Rattle.vx_machine_start.proofs.StartShows.{refused_as}
+use Rattle.vx_machine_children.proofs.StartShows.{refused_as}
 use Rattle.vx_machine_task.proofs.ViewParts.{add_add, count_row, row_out}
 
 -- ---- a run is opened

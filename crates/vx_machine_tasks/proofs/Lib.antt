@@ -6,3 +6,5 @@ pub mod DictActs
 pub mod StepViews
 pub mod StepShows
 pub mod StepLifts
+pub use Rattle.vx_machine_children.proofs.StartRows
+pub use Rattle.vx_machine_children.proofs.StartCauses

@@ -7,3 +7,4 @@ mod dict_acts;
 mod steps;
 
 pub use steps::{Did, step};
+pub use vx_machine_children::start_task;

@@ -3,9 +3,9 @@ use Rattle.std.specs.Arc.{arc_value}
 use Rattle.std.specs.Prelude.{IfOk, IfErr}
 use Rattle.vx_sink.specs.ContextView.{allowed_in, is_marked}
 use Rattle.vx_strategy.specs.StrategyView.{strategy_data}
-use Rattle.vx_machine_start.specs.Starting.{Started, FormRefused}
+use Rattle.vx_machine_tasks.specs.Starting.{Started, FormRefused}
 use Rattle.vx_machine_node.specs.View.{form_at, form_of}
-use Rattle.vx_machine_fresh.proofs.StartCauses.{memory_start}
+use Rattle.vx_machine_tasks.proofs.StartCauses.{memory_start}
 use Rattle.vx_machine.proofs.machine.start_root.Goals as goal
 
 pub returns-in-Ok-clause-shows : goal.returns-in-Ok-clause-shows

@@ -6,7 +6,7 @@ use Rattle.vx_machine_ids.specs.Balance.{Moved}
 use Rattle.vx_machine_ids.proofs.Stocks.{both_none}
 use Rattle.vx_machine_ids.proofs.MoveLaws.{moved_none}
 use Rattle.vx_machine_task.specs.Stocks.{task_stock}
-use Rattle.vx_machine_fresh.proofs.StartCauses.{start_may}
+use Rattle.vx_machine_start.proofs.StartCauses.{start_may}
 use Rattle.std.specs.Arc.{arc_value}
 use Rattle.vx_path.specs.Path.{under, inside}
 use Rattle.vx_model.specs.TyView.{ty}

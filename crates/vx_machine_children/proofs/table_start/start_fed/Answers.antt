@@ -15,7 +15,7 @@ use Rattle.vx_machine_state.specs.Start.{first_indices}
 use Rattle.vx_sink.specs.ContextView.{allowed_in}
 use Rattle.vx_machine_node.specs.Stocks.{item_stock}
 use Rattle.vx_machine_node.specs.View.{form_at, form_of, item_of}
-use Rattle.vx_machine_fresh.proofs.StartCauses.{memory_start, start_may}
+use Rattle.vx_machine_start.proofs.StartCauses.{memory_start, start_may}
 use Rattle.vx_machine_task.specs.Ledger.{task_reserved, tasks_reserved}
 use Rattle.vx_machine_start.specs.Starting.{Started, FormRefused}
 use Rattle.vx_machine_task.specs.Stocks.{task_stock, tasks_stock}

@@ -4,7 +4,7 @@ use Rattle.vx_path.specs.Path.{Eof, eof_path}
 use Rattle.vx_sequence.specs.Universe.{Active}
 use Rattle.vx_machine_ids.specs.Stock.{Stock, none, both, id_stock, end_stock, ok_stock}
 use Rattle.vx_machine_ids.specs.Balance.{Moved}
-use Rattle.vx_machine_fresh.proofs.StartCauses.{full_starts, start_may}
+use Rattle.vx_machine_start.proofs.StartCauses.{full_starts, start_may}
 use Rattle.vx_machine_start.proofs.CauseSteps.{full_refused}
 use Rattle.vx_machine_start.proofs.StartMoves.{off_owned}
 use Rattle.vx_machine_children.proofs.TableStarts.{first_moved, below_left, first_refused}

@@ -11,7 +11,7 @@ use Rattle.vx_machine_node.specs.Stocks.{dues_stock, local_stock}
 use Rattle.vx_machine_node.specs.View.{coder_in, todo_of, mind_of}
 use Rattle.vx_machine_node.specs.declared.item.Due.TheVariants.{Close}
 use Rattle.vx_machine_node.specs.declared.node.Local.TheVariants.{Probe}
-use Rattle.vx_machine_fresh.proofs.StartCauses.{start_may}
+use Rattle.vx_machine_children.proofs.StartCauses.{start_may}
 use Rattle.vx_machine_node.proofs.DueSteps.{one_free}
 use Rattle.vx_machine_node.proofs.ReservedSteps.{dues_push}
 use Rattle.vx_machine_task.specs.Stocks.{tasks_stock}

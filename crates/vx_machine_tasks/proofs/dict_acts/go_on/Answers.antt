@@ -9,7 +9,7 @@ use Rattle.vx_machine_nodes.specs.Acting.{bare, Took, TakeRefused}
 use Rattle.vx_machine_node.specs.Ledger.{dues_reserved, local_reserved}
 use Rattle.vx_machine_node.specs.Stocks.{item_stock, dues_stock, local_stock, probe_stock, runs_stock}
 use Rattle.vx_machine_node.specs.View.{coder_in, item_of, todo_of, mind_of}
-use Rattle.vx_machine_fresh.proofs.StartCauses.{start_may}
+use Rattle.vx_machine_children.proofs.StartCauses.{start_may}
 use Rattle.vx_machine_task.specs.Stocks.{tasks_stock}
 use Rattle.vx_machine_task.specs.View.{row}
 use Rattle.vx_machine_tasks.proofs.DictActs.{coded_took, fell_took, fell_why, by_count, fell_owned, fell_item, fell_mind, fell_moved, fell_lost, probe_owned, probe_lost, runs_owned, runs_moved}

@@ -7,7 +7,7 @@ use Rattle.vx_sink.specs.ContextView.{allowed_in}
 use Rattle.vx_machine_node.specs.RunPaths.{eof_at}
 use Rattle.vx_machine_node.specs.Stocks.{item_stock}
 use Rattle.vx_machine_node.specs.View.{item_of}
-use Rattle.vx_machine_fresh.proofs.StartCauses.{start_may}
+use Rattle.vx_machine_children.proofs.StartCauses.{start_may}
 use Rattle.vx_machine_node.proofs.LedgerSteps.{told_allowed}
 use Rattle.vx_machine_task.specs.Stocks.{tasks_stock}
 use Rattle.vx_machine_tasks.proofs.DictActs.{codes_owned, values_owned, run_moved, run_lost, opened, codes_why, values_why}

@@ -1,6 +1,6 @@
 use Rattle.vx_model.specs.TyView.{ty}
 use Rattle.vx_strategy.specs.StrategyView.{strategy_data}
-use Rattle.vx_machine_node.proofs.LedgerSteps.{told_listed, told_allowed, told_marked}
+use Rattle.vx_machine.proofs.LedgerSteps.{told_listed, told_allowed, told_marked}
 use Rattle.vx_machine.specs.View.{machine_of}
 use Rattle.vx_machine.specs.Whole.{machine_stock}
 use Rattle.vx_write.proofs.RanSteps.{all_held, has_run}

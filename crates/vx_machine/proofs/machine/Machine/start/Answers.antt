@@ -8,7 +8,7 @@ use Rattle.vx_machine_state.specs.State.{no_tasks}
 use Rattle.vx_machine_view.specs.Machine.{reading}
 use Rattle.vx_machine_node.specs.View.{form_of}
 use Rattle.vx_machine_task.specs.Stocks.{task_stock}
-use Rattle.vx_machine_start.proofs.StartRows.{started_none}
+use Rattle.vx_machine_tasks.proofs.StartRows.{started_none}
 use Rattle.vx_machine.proofs.Coming.{begins}
 use Rattle.vx_machine.proofs.MachineMoves.{first_left, second_first}
 use Rattle.vx_machine.proofs.machine.Machine.start.Goals as goal

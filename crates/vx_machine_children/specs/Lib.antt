@@ -1,0 +1,1 @@
+pub use Rattle.vx_machine_start.specs.Starting
