@@ -88,9 +88,11 @@ pub mod sink {
 }
 
 /// What columns share that are written by a thread each: the sink under its lock, a seat for each column, the order of
-/// a column, and the count of the bytes that workers hold. No call writes columns on threads yet.
+/// a column, the gate before its compressor, and the count of the bytes that workers hold. No call writes columns on
+/// threads yet.
 pub mod threads {
     pub use vx_column_order::ColumnOrder;
+    pub use vx_gate::{Gate, Gated, NoGate};
     pub use vx_seats::{Pairs, Seat, SeatError, SinkState, Turn};
     pub use vx_shared::{BytesSeat, OrderedSink, SharedBytesTracker};
 }

@@ -1,3 +1,4 @@
+use crate::ids;
 use crate::state::{bound_state, byte_bound_state, filter_state, sum_state};
 use std::alloc::AllocError;
 use std::fmt;
@@ -25,17 +26,28 @@ impl AggregateFn {
     ghost use Rattle.vx_aggregate_spec.specs.Aggregate.{aggregate_id, state_type};
     ghost use Rattle.vx_aggregate.specs.AggregateView.{aggregate};
 
+    /// The ids of all aggregates.
+    pub const IDS: [&'static str; 7] = [
+        ids::MAX,
+        ids::MIN,
+        ids::BOUNDED_MAX,
+        ids::BOUNDED_MIN,
+        ids::NULL_COUNT,
+        ids::SUM,
+        ids::BLOOM,
+    ];
+
     pub fn id(&self) -> &'static str
         ensures { result.now ≡ aggregate_id (aggregate self.now) }
     {
         match self {
-            AggregateFn::Max => "vortex.max",
-            AggregateFn::Min => "vortex.min",
-            AggregateFn::BoundedMax(_) => "vortex.bounded_max",
-            AggregateFn::BoundedMin(_) => "vortex.bounded_min",
-            AggregateFn::NullCount => "vortex.null_count",
-            AggregateFn::Sum => "vortex.sum",
-            AggregateFn::Bloom(_) => "vortex.bloom_filter.sbbf",
+            AggregateFn::Max => ids::MAX,
+            AggregateFn::Min => ids::MIN,
+            AggregateFn::BoundedMax(_) => ids::BOUNDED_MAX,
+            AggregateFn::BoundedMin(_) => ids::BOUNDED_MIN,
+            AggregateFn::NullCount => ids::NULL_COUNT,
+            AggregateFn::Sum => ids::SUM,
+            AggregateFn::Bloom(_) => ids::BLOOM,
         }
     }
 

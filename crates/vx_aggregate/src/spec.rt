@@ -7,6 +7,7 @@ ghost use Rattle.vx_aggregate_spec.specs.Aggregate.{option_bytes, bloom};
 ghost use Rattle.vx_aggregate.specs.declared.spec.SpecError.TheVariants.{Options};
 
 use crate::aggregate::AggregateFn;
+use crate::ids;
 use std::alloc::{AllocError, Global};
 use std::num::NonZeroU32;
 use thiserror::Error;
@@ -47,25 +48,25 @@ impl AggregateFn {
     pub fn from_spec(id: &str, options: &[u8]) -> Result<AggregateFn, SpecError>
         ensures { NamesAggregate id.now options.now result }
     {
-        if id == "vortex.max" {
+        if id == ids::MAX {
             plain(AggregateFn::Max, options)
-        } else if id == "vortex.min" {
+        } else if id == ids::MIN {
             plain(AggregateFn::Min, options)
-        } else if id == "vortex.null_count" {
+        } else if id == ids::NULL_COUNT {
             plain(AggregateFn::NullCount, options)
-        } else if id == "vortex.sum" {
+        } else if id == ids::SUM {
             plain(AggregateFn::Sum, options)
-        } else if id == "vortex.bounded_max" {
+        } else if id == ids::BOUNDED_MAX {
             match bound(options) {
                 Some(n) => Ok(AggregateFn::BoundedMax(n)),
                 None => Err(SpecError::Options),
             }
-        } else if id == "vortex.bounded_min" {
+        } else if id == ids::BOUNDED_MIN {
             match bound(options) {
                 Some(n) => Ok(AggregateFn::BoundedMin(n)),
                 None => Err(SpecError::Options),
             }
-        } else if id == "vortex.bloom_filter.sbbf" {
+        } else if id == ids::BLOOM {
             match blocks(options) {
                 Some(n) => Ok(AggregateFn::Bloom(n)),
                 None => Err(SpecError::Options),

@@ -32,15 +32,25 @@ pub(crate) fn byte_bound_state(column: &DType) -> Option<DType>
     }
 }
 
-#[tactic(auto, using(vx_model::proofs::Views::view_rules))]
 pub(crate) fn sum_state(column: &DType) -> Option<DType>
     ensures { option_map ty result ≡ sums (sum_of_type (ty column.now)) }
 {
+    match sum_ptype(column) {
+        Some(ptype) => Some(DType::Primitive(ptype, Nullability::Nullable)),
+        None => None,
+    }
+}
+
+/// The integers that a column's sums are; nothing where it has none. An extension has its storage's.
+#[tactic(auto, using(vx_model::proofs::Views::view_rules))]
+pub fn sum_ptype(column: &DType) -> Option<PType>
+    ensures { result ≡ sum_of_type (ty column.now) }
+{
     match column {
-        DType::Bool(_) => Some(DType::Primitive(PType::U64, Nullability::Nullable)),
-        DType::Primitive(p, _) => Some(DType::Primitive(sum_type(*p), Nullability::Nullable)),
+        DType::Bool(_) => Some(PType::U64),
+        DType::Primitive(p, _) => Some(sum_type(*p)),
         DType::Utf8(_) | DType::Binary(_) | DType::List(..) | DType::Struct(..) => None,
-        DType::Extension(ext) => sum_state(&ext.storage),
+        DType::Extension(ext) => sum_ptype(&ext.storage),
     }
 }
 

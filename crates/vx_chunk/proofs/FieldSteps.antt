@@ -175,6 +175,22 @@ pub typed_none : (fs : Tys) → typed_columns fs [] ≡ []
 typed_none no_fields = refl
 typed_none (field name t fs) = refl
 
+-- the next column is the next field's
+pub next_fit : (fs : List StructField) (i : ℕ) (f : StructField) (all rest : List (Vec Cell)) (column : Vec Cell) → f ≡ get_or fs i f → all ≡ column ∷ rest → columns_fit (tys_of (map field_ty (drop i fs))) (map trees_in all) ≡ true
+    → (i < length fs) × ((all_by (fits (ty f.dtype)) (trees_in column) ≡ true) × (columns_fit (tys_of (map field_ty (drop (i + 1) fs))) (map trees_in rest) ≡ true))
+next_fit fs i f all rest column is e h =
+    let here : columns_fit (tys_of (map field_ty (drop i fs))) (trees_in column ∷ map trees_in rest) ≡ true = rw e at h in
+    let lt = column_fits fs i (trees_in column) (map trees_in rest) here in
+    (lt, and_parts (all_by (fits (ty f.dtype)) (trees_in column)) (columns_fit (tys_of (map field_ty (drop (i + 1) fs))) (map trees_in rest)) (sym (drop_fit fs i f (trees_in column) (map trees_in rest) lt is) ∙ here))
+
+pub next_typed : (fs : List StructField) (i : ℕ) (f : StructField) (all rest : List (Vec Cell)) (column : Vec Cell) (chunks target : List ChunkData) → i < length fs → f ≡ get_or fs i f → all ≡ column ∷ rest
+    → chunks ++ typed_columns (tys_of (map field_ty (drop i fs))) (map trees_in all) ≡ target
+    → (chunks ++ (plain_piece (ty f.dtype) (trees_in column) ∷ [])) ++ typed_columns (tys_of (map field_ty (drop (i + 1) fs))) (map trees_in rest) ≡ target
+next_typed fs i f all rest column chunks target lt is e h =
+    append_assoc chunks (plain_piece (ty f.dtype) (trees_in column) ∷ []) (typed_columns (tys_of (map field_ty (drop (i + 1) fs))) (map trees_in rest))
+    ∙ ap (λ (ys : List ChunkData). chunks ++ ys) (sym (drop_typed fs i f (trees_in column) (map trees_in rest) lt is))
+    ∙ (rw e at h)
+
 -- no column is left
 pub all_typed : (chunks target : List ChunkData) (fs : Tys) (columns : List (Vec Cell)) → length columns ≡ 0 → chunks ++ typed_columns fs (map trees_in columns) ≡ target → chunks ≡ target
 all_typed chunks target fs [] e h = sym (append-nil chunks) ∙ (rw (typed_none fs) at h)

@@ -4,7 +4,7 @@ use std::marker::Model;
 use vx_model::{Cell, DType};
 
 /// How rows are held. A list or a struct that isn't nullable has no flags.
-#[derive(Debug, Drop)]
+#[derive(Drop)]
 #[cycle(chunk)]
 pub enum Node {
     /// The cells themselves.
@@ -50,7 +50,7 @@ pub enum Node {
 }
 
 /// Rows of one type.
-#[derive(Debug, Drop)]
+#[derive(Drop)]
 #[cycle(chunk)]
 pub struct Chunk {
     pub(crate) node: Node,

@@ -9,6 +9,7 @@ ghost use Rattle.vx_chunk.specs.Encoded.{encoding_of};
 ghost use Rattle.vx_chunk.specs.Parts.{keeps_cells};
 
 use crate::node::{Chunk, Node};
+use std::fmt;
 use vx_model::{Cell, DType, EncodingId};
 
 impl Chunk {
@@ -122,4 +123,18 @@ pub(crate) fn total_rows(chunks: &[Chunk]) -> u128
         rows += u128::from(chunk.len());
     }
     rows
+}
+
+impl fmt::Debug for Chunk {
+    ghost use Rattle.std.specs.Prelude.{None};
+
+    ghost debug_output = { λ c. None };
+
+    /// The encoding, the type and the number of rows.
+    fn fmt<W: fmt::Write>(&self, f: &mut fmt::Formatter<W>) -> fmt::Result {
+        let encoding = self.encoding();
+        let dtype = self.dtype();
+        let rows = self.len();
+        write!(f, "{encoding:?} {dtype} of {rows} rows")
+    }
 }

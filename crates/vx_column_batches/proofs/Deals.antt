@@ -1,16 +1,14 @@
 -- A batch's columns are put behind those of the batches before it.
-use Rattle.std.proofs.Common.{◌≡◌, ℕ, zero, suc, ◌+◌, Bool, true, false, ◌==◌, List, [], ◌∷◌, ◌++◌, map, length, take, drop, get_or, set, refl, sym, ap, subst, ◌∙◌, arith}
+use Rattle.std.proofs.Common.{◌≡◌, ℕ, zero, suc, ◌+◌, true, false, List, [], ◌∷◌, ◌++◌, map, length, take, drop, get_or, set, refl, sym, ap, ◌∙◌, arith}
 use Rattle.std.proofs.lemmas.List.{map_push, map-append, take-append-drop, set-get_or, take_at}
-use Rattle.std.proofs.lemmas.Bool.{true≢false, and_parts}
+use Rattle.std.proofs.lemmas.Bool.{true≢false}
 use Rattle.std.specs.Global.{Vec}
-use Rattle.vx_model.specs.Ty.{Ty, Tys, no_fields, field, fields_in, boolean, primitive, utf8, binary, list, struct, extension, is_struct, ty_eq}
-use Rattle.vx_model.specs.CellData.{CellData}
-use Rattle.vx_model.specs.ChunkData.{ChunkData, plain_piece, constant_piece, dict_piece, chunked_piece, list_piece, struct_piece, extension_piece, pieces_in, piece_type, cells, match_fields, has_fields, is_sound, are_sound}
+use Rattle.vx_model.specs.Ty.{Ty, boolean, primitive, utf8, binary, list, struct, extension, is_struct}
+use Rattle.vx_model.specs.ChunkData.{ChunkData, piece_type, is_sound}
 use Rattle.vx_model.specs.Words.{tail}
-use Rattle.vx_layout_spec.specs.Parts.{others_of, plain_fields, field_pieces}
 use Rattle.vx_chunk.specs.declared.node.Chunk.{Chunk}
-use Rattle.vx_rules.specs.Columns.{struct_columns, head_piece}
-use Rattle.vx_react.specs.Splitter.{struct_width}
+use Rattle.vx_rules.specs.Columns.{head_piece}
+use Rattle.vx_react.proofs.Widths.{fields_count, columns_count}
 use Rattle.vx_column_batches.specs.Beside.{columns_of, width_of, chunks_beside, dealt}
 
 pub beside_push : (k : ℕ) (rows : List (List ChunkData)) (r : List ChunkData) → length r ≡ k → chunks_beside k (rows ++ (r ∷ [])) ≡ dealt (chunks_beside k rows) r
@@ -43,30 +41,6 @@ deal_stopped cs before i n x [] target e z h = rw (set-get_or cs i x, take_at cs
 deal_stopped cs before i n x (p ∷ ps) target e z h = absurd (omega (arith, z))
 
 -- ---- as many as the type's columns
-
-match_count : (fs : Tys) (ps : List ChunkData) (n : ℕ) → match_fields fs ps n ≡ true → length ps ≡ length (fields_in fs)
-match_count no_fields [] n h = refl
-match_count no_fields (p ∷ ps) n h = absurd (true≢false (sym h))
-match_count (field name t fs) [] n h = absurd (true≢false (sym h))
-match_count (field name t fs) (p ∷ ps) n h = ap suc (match_count fs ps n (and_parts (length (cells p) == n) _ (and_parts (ty_eq (piece_type p) t) _ h).1).1)
-
-plain_count : (fs : Tys) (cs : List CellData) → length (plain_fields fs cs) ≡ length (fields_in fs)
-plain_count no_fields cs = refl
-plain_count (field name t fs) cs = ap suc (plain_count fs (map others_of cs))
-
-fields_count : (fs : Tys) (m : Bool) (p : ChunkData) → piece_type p ≡ struct fs m → is_sound p ≡ true → length (field_pieces fs p) ≡ length (fields_in fs)
-fields_count fs m (struct_piece u ps valid n) is s =
-    match_count fs (pieces_in ps) n (subst (λ t. has_fields t (pieces_in ps) n ≡ true) is (and_parts (has_fields u (pieces_in ps) n) _ (and_parts (are_sound ps) _ s).1).0)
-fields_count fs m (plain_piece u cs) is s = plain_count fs cs
-fields_count fs m (constant_piece u c n) is s = plain_count fs (cells (constant_piece u c n))
-fields_count fs m (dict_piece codes values) is s = plain_count fs (cells (dict_piece codes values))
-fields_count fs m (chunked_piece u ps) is s = plain_count fs (cells (chunked_piece u ps))
-fields_count fs m (list_piece u e offsets valid) is s = plain_count fs (cells (list_piece u e offsets valid))
-fields_count fs m (extension_piece u p) is s = plain_count fs (cells (extension_piece u p))
-
-columns_count : (fs : Tys) (m : Bool) (p : ChunkData) → length (field_pieces fs p) ≡ length (fields_in fs) → length (struct_columns fs m p) ≡ struct_width fs m
-columns_count fs true p h = ap suc h
-columns_count fs false p h = h
 
 pub width_is : (t : Ty) (p : ChunkData) → is_struct t ≡ true → piece_type p ≡ t → is_sound p ≡ true → length (columns_of t p) ≡ width_of t
 width_is (struct fs n) p k y h = columns_count fs n p (fields_count fs n p y h)

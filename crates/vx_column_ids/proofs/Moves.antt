@@ -1,14 +1,14 @@
 -- What calls move, of what is held in lists.
-use Rattle.std.proofs.Common.{◌≡◌, ◌≢◌, ℕ, ◌-◌, ◌<◌, true, List, [], ◌∷◌, ◌++◌, length, get_or, set, is_some, refl, sym, ap, subst, ◌∙◌, ⊎_elim, arith}
+use Rattle.std.proofs.Common.{◌≡◌, ℕ, ◌-◌, ◌<◌, List, [], ◌∷◌, ◌++◌, length, get_or, set, refl, sym, ap, subst, ◌∙◌, arith}
 use Rattle.std.specs.FinMap as map
-use Rattle.vx_path.specs.Path.{Eof, eof_path}
+use Rattle.vx_path.specs.Path.{Eof}
 use Rattle.vx_sequence.specs.Universe.{Active, root, only}
-use Rattle.vx_sequence.proofs.Sets.{one_path, same_refl, same_false, get-inserted}
-use Rattle.vx_machine_ids.specs.Stock.{Stock, same, one, none, both, all_stock, id_stock, end_stock, ids_stock}
-use Rattle.vx_machine_ids.specs.Balance.{active_at, Owned, Moved}
+use Rattle.vx_machine_ids.specs.Stock.{Stock, one, none, both, all_stock, id_stock, end_stock, ids_stock}
+use Rattle.vx_machine_ids.specs.Balance.{Owned, Moved}
 use Rattle.vx_machine_ids.proofs.Stocks.{stock_is, both_none, both_assoc, both_swap, all_push}
 use Rattle.vx_machine_ids.proofs.MoveLaws.{moved_as, moved_none, moved_then, moved_beside, moved_behind, moved_drop, moved_drop_first, owned_as, owned_left, owned_right, owned_now}
 use Rattle.vx_machine_ids.proofs.Lists.{at_within, set_ids, set_ends}
+use Rattle.vx_machine_ids.proofs.Roots.{only_owned}
 use Rattle.vx_column_ids.specs.Outsets.{ends_stock}
 
 -- what is made is put behind a list
@@ -140,27 +140,6 @@ module _ (u v : Active) (s s' t : Stock) (o : Owned u s) (m : Moved u v s (both 
   made_gone w n = owned_now v w (both s' t) s' both_held (moved_drop v w s' t both_held n)
 
 -- ---- the root
-
-one_same : (p q : List ℕ) → p ≡ q → one (same p q) ≡ 1
-one_same p q e = ap one (subst (λ r. same p r ≡ true) e (same_refl p))
-
-one_other : (p q : List ℕ) → p ≢ q → one (same p q) ≡ 0
-one_other p q n = ap one (same_false p q n)
-
-only_owned : (e : Eof) → Owned (only e) (end_stock e)
-only_owned e = record {
-  within = λ q. ⊎_elim
-      (λ i. omega (arith, one_same q (eof_path e) i, here q i))
-      (λ n. omega (arith, one_other q (eof_path e) n))
-      (one_path q (eof_path e));
-  opened = λ q h. ⊎_elim
-      (λ i. ap (map.get (only e)) i ∙ get-inserted map.empty (eof_path e) true)
-      (λ n. absurd (omega (arith, h, one_other q (eof_path e) n)))
-      (one_path q (eof_path e));
-}
-  where
-    here : (q : List ℕ) → q ≡ eof_path e → active_at (only e) q ≡ 1
-    here q i = ap (λ o. one (is_some o)) (ap (map.get (only e)) i ∙ get-inserted map.empty (eof_path e) true)
 
 pub root_owned : (u : Active) (e : Eof) → u ≡ only root → e ≡ root → Owned u (end_stock e)
 root_owned u e a b = subst (λ v. Owned v (end_stock e)) (sym a) (subst (λ f. Owned (only root) (end_stock f)) (sym b) (only_owned root))

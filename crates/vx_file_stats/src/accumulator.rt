@@ -11,7 +11,7 @@ use vx_chunk::Chunk;
 use vx_model::DType;
 
 /// The statistics of a source's columns, gathered of the batches that it gave.
-#[derive(Debug, Drop)]
+#[derive(Drop)]
 pub struct FileStatsAccumulator {
     pub(crate) dtype: DType,
     pub(crate) stats: Vec<Stat>,

@@ -18,7 +18,7 @@ use vx_model::{Cell, DType, Value};
 use vx_zone_record::{cells_value, greater, lesser, lower_bound, upper_bound};
 
 /// A bound of the batches so far.
-#[derive(Debug, Drop)]
+#[derive(Drop)]
 pub(crate) struct BoundSoFar {
     /// Null where no batch has one.
     pub(crate) value: Value,
@@ -51,9 +51,16 @@ pub(crate) fn max_with(
     requires fit { IsTrue (all_by (fits (ty column.now)) (map tree cells.now)) }
     ensures { IfOk result (λ b. bound_data b ≡ max_with limit (greatest (map value (map tree cells.now))) (bound_data before)) }
 {
-    let found = cells_value(alloc, AggregateFn::Max, column, cells)?;
+    let Ok(found) = cells_value(alloc, AggregateFn::Max, column, cells) else {
+        drop(before);
+        return Err(AllocError);
+    };
     let cut = is_longer(&found, limit);
-    let bound = upper_bound(alloc, &found, limit)?;
+    let Ok(bound) = upper_bound(alloc, &found, limit) else {
+        drop((found, before));
+        return Err(AllocError);
+    };
+    drop(found);
     let missing = matches!(bound, Value::Null);
     Ok(BoundSoFar {
         value: greater(bound, before.value),
@@ -74,9 +81,16 @@ pub(crate) fn min_with(
     requires fit { IsTrue (all_by (fits (ty column.now)) (map tree cells.now)) }
     ensures { IfOk result (λ b. bound_data b ≡ min_with limit (least (map value (map tree cells.now))) (bound_data before)) }
 {
-    let found = cells_value(alloc, AggregateFn::Min, column, cells)?;
+    let Ok(found) = cells_value(alloc, AggregateFn::Min, column, cells) else {
+        drop(before);
+        return Err(AllocError);
+    };
     let cut = is_longer(&found, limit);
-    let bound = lower_bound(alloc, &found, limit)?;
+    let Ok(bound) = lower_bound(alloc, &found, limit) else {
+        drop((found, before));
+        return Err(AllocError);
+    };
+    drop(found);
     let missing = matches!(bound, Value::Null);
     Ok(BoundSoFar {
         value: lesser(bound, before.value),

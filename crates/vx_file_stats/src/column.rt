@@ -13,7 +13,7 @@ use vx_chunk::{Chunk, ChunkError};
 use vx_model::DType;
 
 /// What is gathered of a column.
-#[derive(Debug, Drop)]
+#[derive(Drop)]
 pub(crate) struct ColumnStats {
     pub(crate) dtype: DType,
     pub(crate) rows: RowStats,

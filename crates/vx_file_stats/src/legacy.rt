@@ -151,5 +151,5 @@ fn push_column(
 fn skip(rest: &mut IntoIter<Chunk>)
     ensures { into_iter_items rest.new ≡ drop 1 (into_iter_items rest.old) }
 {
-    let _flag = rest.next();
+    drop(rest.next());
 }

@@ -81,6 +81,8 @@ fn with_pieces(
         if i < pieces.len() {
             columns.push(with_piece(alloc, asked, limit, &pieces[i], column)?)?;
             i += 1;
+        } else {
+            drop(column);
         }
     }
     Ok(columns)

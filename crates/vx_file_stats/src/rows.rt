@@ -23,7 +23,7 @@ use vx_model::{Cell, DType, Value};
 use vx_zone_record::{cells_value, null_count};
 
 /// What is gathered of a column's rows. What isn't asked for stays as it began.
-#[derive(Debug, Drop)]
+#[derive(Drop)]
 pub(crate) struct RowStats {
     pub(crate) upper: BoundSoFar,
     pub(crate) lower: BoundSoFar,
@@ -64,6 +64,7 @@ pub(crate) fn with_chunk(
         return with_cells(alloc, asked, limit, chunk.dtype(), cells, before);
     }
     let Ok(cells) = chunk.cells(alloc) else {
+        drop(before);
         return Err(AllocError);
     };
     with_cells(alloc, asked, limit, chunk.dtype(), &cells, before)
@@ -95,9 +96,18 @@ fn with_cells(
         total,
         null_rows,
     } = before;
-    let upper = next_upper(alloc, asked, limit, column, cells, upper)?;
-    let lower = next_lower(alloc, asked, limit, column, cells, lower)?;
-    let total = next_total(alloc, asked, column, cells, total)?;
+    let Ok(upper) = next_upper(alloc, asked, limit, column, cells, upper) else {
+        drop(lower);
+        return Err(AllocError);
+    };
+    let Ok(lower) = next_lower(alloc, asked, limit, column, cells, lower) else {
+        drop(upper);
+        return Err(AllocError);
+    };
+    let Ok(total) = next_total(alloc, asked, column, cells, total) else {
+        drop((upper, lower));
+        return Err(AllocError);
+    };
     Ok(RowStats {
         upper,
         lower,
@@ -167,7 +177,9 @@ fn batch_sum(alloc: Global, column: &DType, cells: &[Cell]) -> Result<Option<i12
     ensures { IfOk result (λ s. s ≡ number_in (sum_value (sum_of_type (ty column.now)) (exact_sum (map value (map tree cells.now))))) }
 {
     let sum = cells_value(alloc, AggregateFn::Sum, column, cells)?;
-    Ok(number_in(&sum))
+    let number = number_in(&sum);
+    drop(sum);
+    Ok(number)
 }
 
 #[tactic(auto, using(vx_zone_record::proofs::ScalarSteps::scalar_rules))]

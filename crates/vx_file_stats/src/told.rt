@@ -64,13 +64,19 @@ fn set_of(asked: &[Stat], column: ColumnStats) -> StatsSet
 fn kept(is_kept: bool, told: Precision) -> Precision
     ensures { precision result ≡ kept is_kept (precision told) }
 {
-    if is_kept { told } else { Precision::Absent }
+    if is_kept {
+        told
+    } else {
+        drop(told);
+        Precision::Absent
+    }
 }
 
 fn max_told(column: &DType, bound: BoundSoFar) -> Precision
     ensures { precision result ≡ max_told (ty column.now) (bound_data bound) }
 {
     if is_byte_type(column) && bound.missing {
+        drop(bound);
         return Precision::Absent;
     }
     min_told(bound)
@@ -117,12 +123,14 @@ fn fitting(column: &DType, total: Option<i128>) -> Precision
     let Some(total) = total else {
         return Precision::Absent;
     };
-    let sum = Value::Int(total);
     match AggregateFn::Sum.state_dtype(column) {
         Ok(Some(state)) => {
+            let sum = Value::Int(total);
             if is_row_value(&state, &sum) {
+                drop(state);
                 return Precision::Exact(sum);
             }
+            drop((state, sum));
             Precision::Absent
         }
         _ => Precision::Absent,

@@ -1,2 +1,3 @@
+pub mod Aggregates
 pub mod Names
 pub mod JobSteps

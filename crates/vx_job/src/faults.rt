@@ -1,5 +1,5 @@
 /// The calls that fail, by their numbers from 0 on.
-#[derive(Debug, Drop)]
+#[derive(Drop)]
 pub struct Faults {
     pub source: Vec<u64>,
     pub sink: Vec<u64>,

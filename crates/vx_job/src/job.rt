@@ -25,7 +25,7 @@ use vx_strategy::Strategy;
 use vx_strategy_json::read_strategy;
 
 /// What the program is asked to write, and how.
-#[derive(Debug, Drop)]
+#[derive(Drop)]
 pub struct Job {
     pub schema: DType,
     pub strategy: Strategy,

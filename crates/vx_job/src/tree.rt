@@ -22,7 +22,7 @@ use vx_model::{DType, Text};
 use vx_session::LayoutContext;
 
 /// The bytes of a layout, and what they are read with.
-#[derive(Debug, Drop)]
+#[derive(Drop)]
 pub struct TreeJob {
     /// The type of the layout's rows.
     pub dtype: DType,

@@ -19,7 +19,7 @@ use vx_model::ArrayContext;
 use vx_session::LayoutEncoding;
 
 /// How the bytes of a layout are read.
-#[derive(Debug, Drop)]
+#[derive(Drop)]
 pub struct TreeOptions {
     pub encodings: ArrayContext,
     /// The kinds that are known.

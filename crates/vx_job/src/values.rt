@@ -13,6 +13,7 @@ ghost use Rattle.vx_json.specs.Views.{Gives};
 use crate::faults::Faults;
 use serde_json::Value;
 use std::alloc::Global;
+use vx_aggregate::{AggregateFn, SpecError};
 use vx_json::{JsonError, has_members, read_items, read_numbers, read_u64, value_at};
 use vx_model::{ArrayContext, EncodingId, Text};
 
@@ -79,17 +80,14 @@ pub(crate) fn read_encodings(alloc: Global, value: &Value) -> Result<ArrayContex
 }
 
 /// Whether an aggregate has this id.
-#[tactic(auto, unfolding(crate::specs::JobParts::is_among))]
+#[tactic(auto, using(crate::proofs::Aggregates::id_rules))]
 fn is_aggregate(name: &str) -> bool
     ensures { result ≡ is_among name.now aggregate_ids }
 {
-    name == "vortex.max"
-        || name == "vortex.min"
-        || name == "vortex.bounded_max"
-        || name == "vortex.bounded_min"
-        || name == "vortex.null_count"
-        || name == "vortex.sum"
-        || name == "vortex.bloom_filter.sbbf"
+    match AggregateFn::from_spec(name, &[]) {
+        Ok(_) | Err(SpecError::Options) => true,
+        Err(SpecError::UnknownAggregate) => false,
+    }
 }
 
 #[tactic(auto, unfolding(crate::specs::JobParts::id_of))]

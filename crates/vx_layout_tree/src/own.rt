@@ -150,15 +150,13 @@ impl ListLayout {
     }
 
     /// The type that the elements of a row have.
-    #[tactic(auto, using(vx_model::proofs::Views::view_rules))]
+    #[tactic(auto, using(crate::proofs::Steps::part_rules))]
     pub fn elements_dtype(&self) -> &DType
         ensures { ty result.now ≡ element_type (layout_type self.now) }
     {
-        match &self.dtype {
-            DType::List(elements, _) => elements,
-            DType::Bool(_) | DType::Primitive(..) | DType::Utf8(_) | DType::Binary(_) =>
-                &self.dtype,
-            DType::Struct(..) | DType::Extension(_) => &self.dtype,
+        match self.dtype.as_list() {
+            Some(elements) => elements,
+            None => &self.dtype,
         }
     }
 }

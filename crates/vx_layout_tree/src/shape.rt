@@ -80,14 +80,13 @@ pub fn struct_children(dtype: &DType) -> u64
 }
 
 /// The fields of a struct type; another type has none.
-#[tactic(auto, using(crate::proofs::Steps::field_rules))]
+#[tactic(auto, using(crate::proofs::Steps::part_rules))]
 pub fn fields_in(dtype: &DType) -> &[StructField]
     ensures { map field_ty result.now ≡ fields_of (ty dtype.now) }
 {
-    match dtype {
-        DType::Struct(fields, _) => &fields.fields,
-        DType::Bool(_) | DType::Primitive(..) | DType::Utf8(_) | DType::Binary(_) => &[],
-        DType::List(..) | DType::Extension(_) => &[],
+    match dtype.as_struct() {
+        Some(fields) => fields,
+        None => &[],
     }
 }
 

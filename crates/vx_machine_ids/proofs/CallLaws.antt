@@ -19,10 +19,10 @@ gone u p e = ap (λ o. one (is_some o)) e
 here : (u : Active) (p : List ℕ) (b : Bool) → map.get u p ≡ Some b → active_at u p ≡ 1
 here u p b e = ap (λ o. one (is_some o)) e
 
-one_same : (p q : List ℕ) → p ≡ q → one (same p q) ≡ 1
+pub one_same : (p q : List ℕ) → p ≡ q → one (same p q) ≡ 1
 one_same p q e = ap one (subst (λ r. same p r ≡ true) e (same_refl p))
 
-one_other : (p q : List ℕ) → p ≢ q → one (same p q) ≡ 0
+pub one_other : (p q : List ℕ) → p ≢ q → one (same p q) ≡ 0
 one_other p q n = ap one (same_false p q n)
 
 -- a path that nobody held is made active, as an id's

@@ -3,3 +3,4 @@ pub mod MoveLaws
 pub mod CallLaws
 pub mod IdMoves
 pub mod Lists
+pub mod Roots

@@ -23,6 +23,18 @@ impl fmt::Display for DType {
     }
 }
 
+impl fmt::Debug for DType {
+    ghost use Rattle.std.specs.Prelude.{Some};
+    ghost use Rattle.vx_model.specs.Shown.{type_text};
+    ghost use Rattle.vx_model.specs.TyView.{ty};
+
+    ghost debug_output = { λ t. Some (type_text (ty t)) };
+
+    fn fmt<W: Write>(&self, f: &mut Formatter<W>) -> fmt::Result {
+        write_type(f, self)
+    }
+}
+
 #[cycle(shown)]
 #[tactic(auto, using(crate::proofs::Texts::type_rules))]
 fn write_type<W: Write>(f: &mut Formatter<W>, dtype: &DType) -> fmt::Result

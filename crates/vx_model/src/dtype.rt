@@ -9,7 +9,7 @@ use crate::text::{FieldName, Text};
 use std::alloc::AllocError;
 
 /// The type of a column. An extension is as nullable as its storage.
-#[derive(Debug, Drop)]
+#[derive(Drop)]
 #[cycle(dtype)]
 pub enum DType {
     Bool(Nullability),

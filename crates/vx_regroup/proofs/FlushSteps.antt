@@ -1,5 +1,5 @@
 -- Pushing to a buffer, and popping from it.
-use Rattle.std.proofs.Common.{◌≡◌, ℕ, ◌+◌, ◌-◌, ◌*◌, ◌<◌, ◌≤◌, ◌^◌, Bool, true, false, List, [], ◌∷◌, ◌++◌, map, length, refl, sym, ap, ◌∙◌, subst, arith, append_assoc}
+use Rattle.std.proofs.Common.{◌≡◌, ℕ, ◌+◌, ◌-◌, ◌*◌, ◌<◌, ◌≤◌, Bool, true, false, List, [], ◌∷◌, ◌++◌, map, length, refl, sym, ap, ◌∙◌, subst, arith, append_assoc}
 use Rattle.std.specs.Prelude.{if◌then◌else◌, nat_le}
 use Rattle.std.proofs.lemmas.List.{map-append, append-nil}
 use Rattle.std.proofs.lemmas.Bool.Decides.{nat_tests}
@@ -10,7 +10,6 @@ use Rattle.vx_regroup.specs.declared.buffered.Kept.{Kept}
 use Rattle.vx_regroup.specs.Kept.{chunk_in, chunks_in, AreWeighed, BufferStands}
 use Rattle.vx_regroup.specs.Refusals.{first_past}
 use Rattle.vx_regroup.specs.Rules.{weights}
-use Rattle.vx_regroup.proofs.PastSteps.{past_later}
 
 le_true : (a b : ℕ) → a ≤ b → nat_le a b ≡ true
 le_true a b h = grind (arith, nat_tests)
@@ -35,11 +34,6 @@ chunks_in-append ks k = map-append chunk_in ks (k ∷ [])
 module _ (ks : List Kept) (total : ℕ) (c : ChunkData) (bytes : ℕ) (s : BufferStands ks total) (e : bytes ≡ held c) where
   pub new_total : total + bytes ≡ total_by held (chunks_in ks ++ (c ∷ []))
   new_total = let a : total_by held (chunks_in ks ++ (c ∷ [])) ≡ total_by held (chunks_in ks) + held c = held-append (chunks_in ks) c in let b : total ≡ total_by held (chunks_in ks) = s.summed in omega arith
-
-  pub sum_is : bytes < 2 ^ 64 → first_past (weights 0 (chunks_in ks) c) ≡ first_past ((total + bytes) ∷ [])
-  sum_is h =
-      past_later (held c) (total_by held (chunks_in ks ++ (c ∷ [])) ∷ []) (subst (λ n. n < 2 ^ 64) e h)
-      ∙ ap (λ (n : ℕ). first_past (n ∷ [])) (sym new_total)
 
   module _ (more : List Kept) (sum : ℕ) (k : Kept) (pushed : more ≡ ks ++ (k ∷ [])) (chunk_is : k.chunk ≡ c) (bytes_is : k.bytes ≡ bytes) (sum_total : sum ≡ total + bytes) where
     pub more_chunks : chunks_in more ≡ chunks_in ks ++ (c ∷ [])
@@ -73,7 +67,9 @@ module _ (ks : List Kept) (total : ℕ) (c : ChunkData) (bytes : ℕ) (s : Buffe
       pub some_stay : twice size ≤ sum → still_held size (chunks_in more) ≡ (flushes size).holds (chunks_in ks) c
       some_stay h = ap (still_held size) more_chunks ∙ ap (λ (b : Bool). if b then still_held size (chunks_in ks ++ (c ∷ [])) else chunks_in ks ++ (c ∷ [])) (sym (full h))
 
-pub ruleset push_rules = (sum_is)
+-- what is weighed at the chunk: its bytes, and the sum with them
+pub weights_are : (size : ℕ) (ks : List Kept) (total : ℕ) (c : ChunkData) → BufferStands ks total → first_past (weights size (chunks_in ks) c) ≡ first_past (held c ∷ (total + held c) ∷ [])
+weights_are size ks total c s = ap (λ (n : ℕ). first_past (held c ∷ n ∷ [])) (sym (new_total ks total c (held c) s refl))
 
 -- ---- popping
 

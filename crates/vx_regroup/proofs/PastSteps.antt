@@ -6,8 +6,9 @@ use Rattle.vx_model.specs.Ty.{Ty, ty_eq}
 use Rattle.vx_model.specs.TyLaws.{ty_eq_decides}
 use Rattle.vx_model.specs.ChunkData.{ChunkData, piece_type}
 use Rattle.vx_layout_spec.proofs.CellsFit.{all_append}
-use Rattle.vx_chunk.specs.Conditions.{are_of_type}
-use Rattle.vx_chunk.specs.declared.error.ChunkError.TheVariants.{TooLarge}
+use Rattle.vx_chunk.specs.Conditions.{are_of_type, IsFarPast}
+use Rattle.vx_chunk.specs.declared.error.ChunkError.{ChunkError}
+use Rattle.vx_chunk.specs.declared.error.ChunkError.TheVariants.{TooLarge, OutOfMemory}
 use Rattle.vx_regroup.specs.Refusals.{first_past, IsTold, Refuses}
 
 pub below : (n : ℕ) → n < 2 ^ 64 → nat_lt n (2 ^ 64) ≡ true
@@ -28,6 +29,16 @@ pub told_here : (n : ℕ) (ns : List ℕ) (m : ℕ) → 2 ^ 64 ≤ n → m ≡ m
 told_here n ns m h e = subst (λ z. IsTold z m) (sym (past_here n ns h)) e
 
 pub ruleset past_rules = (past_later, told_here)
+
+-- a number that is told is the first of any
+pub far_here : (n : ℕ) (ns : List ℕ) (e : ChunkError) → IsFarPast n e → Refuses (first_past (n ∷ ns)) e
+far_here n ns (TooLarge m) h = told_here n ns m h.0 h.1
+far_here n ns OutOfMemory h = tt
+
+pub later_refuses : (n : ℕ) (ns : List ℕ) (e : ChunkError) → n < 2 ^ 64 → Refuses (first_past ns) e → Refuses (first_past (n ∷ ns)) e
+later_refuses n ns e h r = subst (λ o. Refuses o e) (sym (past_later n ns h)) r
+
+pub ruleset weigh_rules = (past_later, far_here, later_refuses)
 
 -- ---- chunks of a type
 

@@ -84,7 +84,6 @@ impl Buffered {
 
 /// What leaves where the chunk comes behind those that are held, which take `total` bytes; what is held then, and its
 /// bytes.
-#[tactic(auto, using(crate::proofs::FlushSteps::push_rules))]
 fn pushed(
     alloc: Global,
     mut kept: VecDeque<Kept>,
@@ -99,13 +98,32 @@ fn pushed(
     ensures fits { OnOk result (first_past (weights size (chunks_in kept.items) chunk) ≡ None) }
     ensures refused { IfErr result (Refuses (first_past (weights size (chunks_in kept.items) chunk))) }
 {
+    match weighed(&chunk, total) {
+        Ok((bytes, total)) => {
+            kept.push_back(Kept { chunk, bytes })?;
+            if total < size.saturating_mul(2) {
+                return Ok((Vec::new(alloc), kept, total));
+            }
+            Ok(flush(alloc, kept, total, size)?)
+        }
+        Err(error) => {
+            drop(chunk);
+            Err(error)
+        }
+    }
+}
+
+/// The bytes that the chunk takes, and the sum with them.
+#[tactic(auto, using(crate::proofs::PastSteps::weigh_rules))]
+fn weighed(chunk: &Chunk, total: u64) -> Result<(u64, u64), ChunkError>
+    ensures bytes { IfOk result (λ r. r.0 ≡ held_of chunk.now) }
+    ensures total { IfOk result (λ r. r.1 ≡ total + r.0) }
+    ensures fits { OnOk result (first_past (held_of chunk.now ∷ (total + held_of chunk.now) ∷ []) ≡ None) }
+    ensures refused { IfErr result (Refuses (first_past (held_of chunk.now ∷ (total + held_of chunk.now) ∷ []))) }
+{
     let bytes = chunk.nbytes()?;
     let total = total_with(total, bytes)?;
-    kept.push_back(Kept { chunk, bytes })?;
-    if total < size.saturating_mul(2) {
-        return Ok((Vec::new(alloc), kept, total));
-    }
-    Ok(flush(alloc, kept, total, size)?)
+    Ok((bytes, total))
 }
 
 /// The sum, where it fits 64 bits.
@@ -147,15 +165,26 @@ fn flush(
 }
 
 /// The chunks that are held, and the last.
-#[tactic(auto, using(crate::proofs::FlushSteps::all_rules))]
 fn all_of(alloc: Global, kept: VecDeque<Kept>, last: Chunk) -> Result<Vec<Chunk>, AllocError>
     ensures { IfOk result (λ v. v.items ≡ chunks_in kept.items ++ last ∷ []) }
+{
+    let Ok(mut chunks) = chunks_of(alloc, kept) else {
+        drop(last);
+        return Err(AllocError);
+    };
+    chunks.push(last)?;
+    Ok(chunks)
+}
+
+/// The chunks that are held.
+#[tactic(auto, using(crate::proofs::FlushSteps::all_rules))]
+fn chunks_of(alloc: Global, kept: VecDeque<Kept>) -> Result<Vec<Chunk>, AllocError>
+    ensures { IfOk result (λ v. v.items ≡ chunks_in kept.items) }
 {
     let kept = Vec::from(kept);
     let mut chunks = Vec::with_capacity(alloc, kept.len())?;
     for one in kept {
         chunks.push(one.chunk)?;
     }
-    chunks.push(last)?;
     Ok(chunks)
 }

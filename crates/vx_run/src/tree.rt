@@ -18,6 +18,7 @@ use crate::answer::{Answer, bad_job};
 use crate::status::Status;
 use bytes::Bytes;
 use std::alloc::{AllocError, Global};
+use vx_aggregate::AggregateFn;
 use vx_display::LayoutDisplay;
 use vx_job::{JobError, TreeJob, read_tree_job};
 use vx_layout_codec::layout_from_flatbuffer_with_options;
@@ -108,16 +109,7 @@ fn session(
 fn aggregates(alloc: Global) -> Result<Vec<Text>, AllocError>
     ensures { IfOk result (λ v. v.items ≡ aggregate_ids) }
 {
-    let ids = [
-        "vortex.max",
-        "vortex.min",
-        "vortex.bounded_max",
-        "vortex.bounded_min",
-        "vortex.null_count",
-        "vortex.sum",
-        "vortex.bloom_filter.sbbf",
-    ];
-    texts(alloc, &ids)
+    texts(alloc, &AggregateFn::IDS)
 }
 
 #[tactic(auto, using(crate::proofs::TreeSteps::copy_rules))]

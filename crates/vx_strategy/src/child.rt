@@ -4,7 +4,7 @@ use std::marker::Model;
 use std::sync::Arc;
 
 /// A strategy that another holds; its clones share it. Contracts see its tree of nodes, which constructors can make.
-#[derive(Debug, Drop)]
+#[derive(Drop)]
 #[cycle(strategy)]
 pub struct ChildStrategy {
     inner: Arc<Strategy>,

@@ -4,7 +4,7 @@ use std::alloc::{AllocError, Global};
 use vx_strategy_options::BuildError;
 
 /// Hands each chunk alone to a child of its own.
-#[derive(Debug, Drop)]
+#[derive(Drop)]
 #[cycle(strategy)]
 pub struct ChunkedLayoutStrategy {
     child: ChildStrategy,

@@ -5,7 +5,7 @@ use std::num::NonZeroU64;
 use vx_strategy_options::BuildError;
 
 /// Hands each chunk's image under the compressor on.
-#[derive(Debug, Drop)]
+#[derive(Drop)]
 #[cycle(strategy)]
 pub struct CompressingStrategy {
     pub(crate) child: ChildStrategy,

@@ -4,7 +4,7 @@ use std::alloc::{AllocError, Global};
 use vx_strategy_options::{BuildError, DictLayoutConstraints, DictLayoutOptions};
 
 /// Writes runs of codes and values, where the first chunk's image under the probe is a dictionary.
-#[derive(Debug, Drop)]
+#[derive(Drop)]
 #[cycle(strategy)]
 pub struct DictStrategy {
     pub(crate) codes: ChildStrategy,

@@ -12,7 +12,7 @@ use vx_model::FieldName;
 use vx_strategy_options::BuildError;
 
 /// The writer of the fields of one name.
-#[derive(Debug, Drop)]
+#[derive(Drop)]
 #[cycle(strategy)]
 pub struct FieldWriter {
     pub name: FieldName,

@@ -6,7 +6,7 @@ use std::alloc::{AllocError, Global};
 use vx_strategy_options::{BlockRule, BuildError, RepartitionWriterOptions};
 
 /// Cuts the rows into blocks of a multiple of the block length.
-#[derive(Debug, Drop)]
+#[derive(Drop)]
 #[cycle(strategy)]
 pub struct RepartitionStrategy {
     pub(crate) child: ChildStrategy,
@@ -85,7 +85,7 @@ impl Clone for RepartitionStrategy {
 }
 
 /// Holds chunks back up to a held size in bytes.
-#[derive(Debug, Drop)]
+#[derive(Drop)]
 #[cycle(strategy)]
 pub struct BufferedStrategy {
     pub(crate) child: ChildStrategy,
@@ -147,7 +147,7 @@ impl Clone for BufferedStrategy {
 }
 
 /// Joins all chunks into one.
-#[derive(Debug, Drop)]
+#[derive(Drop)]
 #[cycle(strategy)]
 pub struct CollectStrategy {
     pub(crate) child: ChildStrategy,

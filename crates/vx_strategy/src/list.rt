@@ -8,7 +8,7 @@ use std::alloc::{AllocError, Global};
 use vx_strategy_options::BuildError;
 
 /// Writes the elements, offsets and validity of lists; a type that isn't a list goes to the fallback.
-#[derive(Debug, Drop)]
+#[derive(Drop)]
 #[cycle(strategy)]
 pub struct ListLayoutStrategy {
     pub elements: ChildStrategy,

@@ -11,7 +11,7 @@ use vx_field_path::FieldPath;
 use vx_strategy_options::BuildError;
 
 /// The writer of the field at a path.
-#[derive(Debug, Drop)]
+#[derive(Drop)]
 #[cycle(strategy)]
 pub struct PathWriter {
     pub path: FieldPath,
@@ -19,7 +19,7 @@ pub struct PathWriter {
 }
 
 /// Writers by path: none is the root's, and no path overlaps another. Contracts see the strategies by their paths.
-#[derive(Debug, Drop)]
+#[derive(Drop)]
 #[cycle(strategy)]
 pub struct Overrides {
     pub list: Vec<PathWriter>,

@@ -8,9 +8,10 @@ use crate::structs::StructStrategy;
 use crate::table::TableStrategy;
 use crate::zoned::ZonedStrategy;
 use std::alloc::AllocError;
+use std::fmt;
 
 /// How a stream of chunks is written: a tree of nodes. Constructors alone make one, so each is admitted.
-#[derive(Debug, Drop)]
+#[derive(Drop)]
 #[cycle(strategy)]
 pub enum Strategy {
     Flat(FlatLayoutStrategy),
@@ -47,5 +48,32 @@ impl Clone for Strategy {
             Strategy::Compressing(s) => Ok(s.clone()?.into_strategy()),
             Strategy::Table(s) => Ok(s.clone()?.into_strategy()),
         }
+    }
+}
+
+impl fmt::Debug for Strategy {
+    ghost use Rattle.std.specs.Prelude.{None};
+
+    ghost debug_output = { λ s. None };
+
+    /// The kind alone.
+    fn fmt<W: fmt::Write>(&self, f: &mut fmt::Formatter<W>) -> fmt::Result {
+        f.write_str(kind(self))
+    }
+}
+
+fn kind(strategy: &Strategy) -> &'static str {
+    match strategy {
+        Strategy::Flat(_) => "Flat",
+        Strategy::Chunked(_) => "Chunked",
+        Strategy::Struct(_) => "Struct",
+        Strategy::List(_) => "List",
+        Strategy::Dict(_) => "Dict",
+        Strategy::Zoned(_) => "Zoned",
+        Strategy::Repartition(_) => "Repartition",
+        Strategy::Buffered(_) => "Buffered",
+        Strategy::Collect(_) => "Collect",
+        Strategy::Compressing(_) => "Compressing",
+        Strategy::Table(_) => "Table",
     }
 }

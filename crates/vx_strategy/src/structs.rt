@@ -6,7 +6,7 @@ use vx_model::FieldName;
 use vx_strategy_options::BuildError;
 
 /// Writes validity and each field by a writer of its own.
-#[derive(Debug, Drop)]
+#[derive(Drop)]
 #[cycle(strategy)]
 pub struct StructStrategy {
     pub validity: ChildStrategy,

@@ -9,7 +9,7 @@ use vx_strategy_options::BuildError;
 
 /// Writes structs field by field, lists where asked for, and every other type by the leaf strategy; a field at the
 /// path of an override goes to its writer.
-#[derive(Debug, Drop)]
+#[derive(Drop)]
 #[cycle(strategy)]
 pub struct TableStrategy {
     pub validity: ChildStrategy,

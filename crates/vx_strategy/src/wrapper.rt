@@ -19,7 +19,7 @@ use vx_strategy_options::{
 };
 
 /// A strategy around the list layout of a table, without its child.
-#[derive(Debug, Drop)]
+#[derive(Drop)]
 pub enum ListWrapper {
     Repartition(RepartitionWriterOptions),
     /// A held size in bytes.
@@ -29,7 +29,7 @@ pub enum ListWrapper {
 }
 
 /// A wrapper whose options were tested.
-#[derive(Debug, Drop)]
+#[derive(Drop)]
 #[cycle(strategy)]
 pub enum Wrapper {
     Repartition(BlockRule),

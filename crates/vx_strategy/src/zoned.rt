@@ -6,7 +6,7 @@ use vx_aggregate::AggregateFn;
 use vx_strategy_options::{BuildError, ZoneRule, ZonedLayoutOptions};
 
 /// Records each zone's rows, and hands them on.
-#[derive(Debug, Drop)]
+#[derive(Drop)]
 #[cycle(strategy)]
 pub struct ZonedStrategy {
     pub(crate) child: ChildStrategy,

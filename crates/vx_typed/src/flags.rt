@@ -7,7 +7,7 @@ use std::alloc::{AllocError, Global};
 use std::marker::Model;
 
 /// A flag a row, or none where all rows are valid. Columns that are cut from one share its flags.
-#[derive(Debug, Drop)]
+#[derive(Drop)]
 pub struct Flags {
     kept: Option<Shared<bool>>,
 }

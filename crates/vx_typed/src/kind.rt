@@ -1,6 +1,6 @@
 //! Texts, or bytes.
 
-#[derive(Clone, Copy, Debug)]
+#[derive(Clone, Copy)]
 pub enum StringKind {
     Utf8,
     Binary,

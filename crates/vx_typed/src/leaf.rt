@@ -67,9 +67,7 @@ impl Leaf for bool {
         match c {
             Cell::Null => Some((false, false)),
             Cell::Bool(b) => Some((true, *b)),
-            Cell::Int(_) | Cell::Utf8(_) | Cell::Binary(_) | Cell::List(..) | Cell::Struct(..) => {
-                None
-            }
+            _ => None,
         }
     }
 }
@@ -99,16 +97,8 @@ impl Leaf for u8 {
     fn read(c: &Cell) -> Option<(bool, u8)> {
         match c {
             Cell::Null => Some((false, 0)),
-            Cell::Int(n) => {
-                if 0 <= *n && *n < 1 << 8 {
-                    Some((true, *n as u8))
-                } else {
-                    None
-                }
-            }
-            Cell::Bool(_) | Cell::Utf8(_) | Cell::Binary(_) | Cell::List(..) | Cell::Struct(..) => {
-                None
-            }
+            Cell::Int(n) if 0 <= *n && *n < 1 << 8 => Some((true, *n as u8)),
+            _ => None,
         }
     }
 }
@@ -138,16 +128,8 @@ impl Leaf for u16 {
     fn read(c: &Cell) -> Option<(bool, u16)> {
         match c {
             Cell::Null => Some((false, 0)),
-            Cell::Int(n) => {
-                if 0 <= *n && *n < 1 << 16 {
-                    Some((true, *n as u16))
-                } else {
-                    None
-                }
-            }
-            Cell::Bool(_) | Cell::Utf8(_) | Cell::Binary(_) | Cell::List(..) | Cell::Struct(..) => {
-                None
-            }
+            Cell::Int(n) if 0 <= *n && *n < 1 << 16 => Some((true, *n as u16)),
+            _ => None,
         }
     }
 }
@@ -177,16 +159,8 @@ impl Leaf for u32 {
     fn read(c: &Cell) -> Option<(bool, u32)> {
         match c {
             Cell::Null => Some((false, 0)),
-            Cell::Int(n) => {
-                if 0 <= *n && *n < 1 << 32 {
-                    Some((true, *n as u32))
-                } else {
-                    None
-                }
-            }
-            Cell::Bool(_) | Cell::Utf8(_) | Cell::Binary(_) | Cell::List(..) | Cell::Struct(..) => {
-                None
-            }
+            Cell::Int(n) if 0 <= *n && *n < 1 << 32 => Some((true, *n as u32)),
+            _ => None,
         }
     }
 }
@@ -216,16 +190,8 @@ impl Leaf for u64 {
     fn read(c: &Cell) -> Option<(bool, u64)> {
         match c {
             Cell::Null => Some((false, 0)),
-            Cell::Int(n) => {
-                if 0 <= *n && *n < 1 << 64 {
-                    Some((true, *n as u64))
-                } else {
-                    None
-                }
-            }
-            Cell::Bool(_) | Cell::Utf8(_) | Cell::Binary(_) | Cell::List(..) | Cell::Struct(..) => {
-                None
-            }
+            Cell::Int(n) if 0 <= *n && *n < 1 << 64 => Some((true, *n as u64)),
+            _ => None,
         }
     }
 }
@@ -255,16 +221,8 @@ impl Leaf for i8 {
     fn read(c: &Cell) -> Option<(bool, i8)> {
         match c {
             Cell::Null => Some((false, 0)),
-            Cell::Int(n) => {
-                if -128 <= *n && *n < 1 << 7 {
-                    Some((true, *n as i8))
-                } else {
-                    None
-                }
-            }
-            Cell::Bool(_) | Cell::Utf8(_) | Cell::Binary(_) | Cell::List(..) | Cell::Struct(..) => {
-                None
-            }
+            Cell::Int(n) if -128 <= *n && *n < 1 << 7 => Some((true, *n as i8)),
+            _ => None,
         }
     }
 }
@@ -294,16 +252,8 @@ impl Leaf for i16 {
     fn read(c: &Cell) -> Option<(bool, i16)> {
         match c {
             Cell::Null => Some((false, 0)),
-            Cell::Int(n) => {
-                if -32_768 <= *n && *n < 1 << 15 {
-                    Some((true, *n as i16))
-                } else {
-                    None
-                }
-            }
-            Cell::Bool(_) | Cell::Utf8(_) | Cell::Binary(_) | Cell::List(..) | Cell::Struct(..) => {
-                None
-            }
+            Cell::Int(n) if -32_768 <= *n && *n < 1 << 15 => Some((true, *n as i16)),
+            _ => None,
         }
     }
 }
@@ -333,16 +283,8 @@ impl Leaf for i32 {
     fn read(c: &Cell) -> Option<(bool, i32)> {
         match c {
             Cell::Null => Some((false, 0)),
-            Cell::Int(n) => {
-                if -2_147_483_648 <= *n && *n < 1 << 31 {
-                    Some((true, *n as i32))
-                } else {
-                    None
-                }
-            }
-            Cell::Bool(_) | Cell::Utf8(_) | Cell::Binary(_) | Cell::List(..) | Cell::Struct(..) => {
-                None
-            }
+            Cell::Int(n) if -2_147_483_648 <= *n && *n < 1 << 31 => Some((true, *n as i32)),
+            _ => None,
         }
     }
 }
@@ -372,16 +314,10 @@ impl Leaf for i64 {
     fn read(c: &Cell) -> Option<(bool, i64)> {
         match c {
             Cell::Null => Some((false, 0)),
-            Cell::Int(n) => {
-                if -9_223_372_036_854_775_808 <= *n && *n < 1 << 63 {
-                    Some((true, *n as i64))
-                } else {
-                    None
-                }
-            }
-            Cell::Bool(_) | Cell::Utf8(_) | Cell::Binary(_) | Cell::List(..) | Cell::Struct(..) => {
-                None
-            }
+            Cell::Int(n) if -9_223_372_036_854_775_808 <= *n && *n < 1 << 63 => Some((
+                true, *n as i64,
+            )),
+            _ => None,
         }
     }
 }

@@ -16,7 +16,7 @@ use std::marker::Model;
 use vx_model::Cell;
 
 /// Values of one machine type, and which of them are valid.
-#[derive(Debug, Drop)]
+#[derive(Drop)]
 pub struct Leaves<T: Leaf> {
     items: Shared<T>,
     valid: Flags,

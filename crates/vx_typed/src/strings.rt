@@ -19,7 +19,7 @@ use vx_chunk_cells::flags_between;
 use vx_model::Cell;
 
 /// Texts or bytes, one behind the other in memory, where each begins and the last ends, and which of them are valid.
-#[derive(Debug, Drop)]
+#[derive(Drop)]
 pub struct Strings {
     kind: StringKind,
     bytes: Shared<u8>,

@@ -36,7 +36,7 @@ use Rattle.vx_machine_runs.proofs.Doing.{did}
 use Rattle.vx_machine_runs.proofs.Ending.{none_later, open_none}
 use Rattle.vx_machine_runs.proofs.Reaching.{leads}
 use Rattle.vx_machine_runs.proofs.Bounding.{run_bounded}
-use Rattle.vx_write.proofs.OwnJoins.{own_joins, idle_joins, source_joins}
+use Rattle.vx_machine_view.proofs.Counting.{own_joins, idle_joins, source_joins}
 
 module _ (s : Setting) (number : List ℕ → ℕ) (next : ℕ) (all : List (List ℕ)) where
   -- none, or one of the numbers that the tasks have counted by now

@@ -1,5 +1,4 @@
 pub mod Imaging
-mod OwnJoins
 mod Joined
 mod Refusing
 mod Leading
@@ -12,3 +11,4 @@ mod WriteSteps
 mod RanSteps
 mod LentSteps
 mod ReadSteps
+mod ColumnCounts

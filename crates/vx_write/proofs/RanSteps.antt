@@ -38,7 +38,7 @@ use Rattle.vx_write_answer.specs.Causes.{is_source_fault, is_sink_fault, is_comp
 use Rattle.vx_machine.specs.TaskView.{form_at}
 use Rattle.vx_write.specs.Answered.{IsStarted, IsOutside, MisfitsAreRead}
 use Rattle.vx_write.specs.Answer.{StoppedTold, AnsweredTold}
-use Rattle.vx_write.proofs.WriteSteps.{only_held}
+use Rattle.vx_machine_ids.proofs.Roots.{only_held}
 
 -- all that is active is held by the machine
 pub all_held : (u v z : Active) (e d stream : Eof) (s : Stock) → Exact u (end_stock e) → Moved u v (end_stock e) (both (end_stock d) (end_stock stream)) → Moved v z (both (end_stock stream) (end_stock d)) s → Exact z s
