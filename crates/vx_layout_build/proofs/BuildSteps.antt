@@ -117,6 +117,22 @@ pub struct_made : (p : LayoutParts) (m : List ℕ) (needed : ℕ) → spelled m 
 unfolding build_struct
 struct_made p m needed e s is count rows same = rw (e, s, ← is, count, rows, fields_are (ty p.dtype) p.children same) refl
 
+-- and where something is
+
+pub struct_metadata_fails : (e : LayoutError) (p : LayoutParts) (m : List ℕ) → Fails e (spelled m (nothing_in m)) → Fails e (build_struct (parts_of p) m)
+unfolding build_struct
+struct_metadata_fails e p m h = fails_by e (spelled m (nothing_in m)) (build_struct (parts_of p) m) (λ x made. rw made refl) h
+
+pub struct_count_fails : (e : LayoutError) (p : LayoutParts) (m : List ℕ) (needed : ℕ) → spelled m (nothing_in m) ≡ Ok tt → is_struct (ty p.dtype) ≡ true → needed ≡ length (struct_types (ty p.dtype))
+    → Fails e (has_children needed (layout_kids p.children)) → Fails e (build_struct (parts_of p) m)
+unfolding build_struct
+struct_count_fails e p m needed nothing s is h = fails_by e (has_children needed (layout_kids p.children)) (build_struct (parts_of p) m) (λ x made. rw (nothing, s, ← is, made) refl) h
+
+pub struct_rows_fail : (e : LayoutError) (p : LayoutParts) (m : List ℕ) (needed : ℕ) → spelled m (nothing_in m) ≡ Ok tt → is_struct (ty p.dtype) ≡ true → needed ≡ length (struct_types (ty p.dtype)) → has_children needed (layout_kids p.children) ≡ Ok tt
+    → Fails e (all_have_rows p.row_count (layout_kids p.children)) → Fails e (build_struct (parts_of p) m)
+unfolding build_struct
+struct_rows_fail e p m needed nothing s is count h = fails_by e (all_have_rows p.row_count (layout_kids p.children)) (build_struct (parts_of p) m) (λ x made. rw (nothing, s, ← is, count, made) refl) h
+
 -- ---- the children, and the layout of them
 
 pub open_fails : (e : LayoutError) (o : Open) → Fails e (all_built o.wanted.items) → Fails e (open_made o)

@@ -101,7 +101,7 @@ drop_none [] n (suc i) le = refl
 drop_none (k ∷ ks) n zero le = absurd (omega (arith, le))
 drop_none (k ∷ ks) n (suc i) le = drop_none ks n i (omega (arith, le))
 
-pub ruleset check_rules = (miscounted, counted, drop_kids, drop_none)
+pub ruleset check_rules = (drop_kids, drop_none)
 
 pub count_is : (ks : List ChildData) (n : ℕ) → has_children n ks ≡ Ok tt → length ks ≡ n
 count_is ks n e = go (length ks == n) refl

@@ -2,7 +2,7 @@ use std::alloc::AllocError;
 use vx_layout_tree::Layout;
 
 /// A child of a layout: kept by it, or built when it was asked for.
-#[derive(Debug, Drop)]
+#[derive(Drop)]
 pub enum LayoutChild<'a> {
     Kept(&'a Layout),
     Built(Layout),

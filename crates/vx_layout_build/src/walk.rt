@@ -11,7 +11,7 @@ use std::alloc::{AllocError, Global};
 use vx_layout_tree::{Layout, LayoutError};
 
 /// A layout and all below it. Once memory ran out nothing comes.
-#[derive(Debug, Drop)]
+#[derive(Drop)]
 pub struct DepthFirst<'a> {
     alloc: Global,
     root: Option<LayoutChild<'a>>,

@@ -1,3 +1,4 @@
+use crate::slots::in_brackets;
 use std::alloc::{AllocError, Global};
 use vx_model::{FieldName, Text};
 
@@ -24,7 +25,7 @@ impl LayoutChildType {
             LayoutChildType::Transparent(name)
             | LayoutChildType::Auxiliary(name)
             | LayoutChildType::Field(name) => name.clone(),
-            LayoutChildType::Chunk((place, _)) => Ok(Text::from(format!(in alloc; "[{place}]")?)),
+            LayoutChildType::Chunk((place, _)) => in_brackets(alloc, *place),
         }
     }
 

@@ -8,26 +8,26 @@ ghost use Rattle.vx_layout_slots.specs.SlotWalk.{row_of_slot};
 
 use crate::child_type::LayoutChildType;
 use crate::slot_walk::{Place, Slots};
-use crate::slots::type_of_slot;
+use crate::slots::{in_brackets, type_of_slot};
 use std::alloc::{AllocError, Global};
 use vx_layout_tree::{Layout, LayoutKind};
 use vx_model::Text;
 
 /// What each child is, or `OutOfMemory` in its place.
-#[derive(Debug, Drop)]
+#[derive(Drop)]
 pub struct ChildTypes<'a> {
     alloc: Global,
     slots: Slots<'a>,
 }
 
 /// The name of each child, or `OutOfMemory` in its place.
-#[derive(Debug, Drop)]
+#[derive(Drop)]
 pub struct ChildNames<'a> {
     types: ChildTypes<'a>,
 }
 
 /// The layout's row at which each child begins, where it has rows of the layout.
-#[derive(Debug, Drop)]
+#[derive(Drop)]
 pub struct ChildRowOffsets<'a> {
     slots: Slots<'a>,
 }
@@ -139,7 +139,7 @@ impl LayoutChildType {
             LayoutChildType::Transparent(name)
             | LayoutChildType::Auxiliary(name)
             | LayoutChildType::Field(name) => Ok(name),
-            LayoutChildType::Chunk((place, _)) => Ok(Text::from(format!(in alloc; "[{place}]")?)),
+            LayoutChildType::Chunk((place, _)) => in_brackets(alloc, place),
         }
     }
 }

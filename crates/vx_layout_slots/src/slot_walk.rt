@@ -13,14 +13,14 @@ use crate::slots::{place_of, slot_count};
 use vx_layout_tree::{KindRef, Layout, LayoutChildren};
 
 /// A slot, and the layout's row at which a chunk in it begins.
-#[derive(Clone, Copy, Debug)]
+#[derive(Clone, Copy)]
 pub(crate) struct Place {
     pub(crate) slot: u64,
     pub(crate) row: u64,
 }
 
 /// The slots from one on.
-#[derive(Debug, Drop)]
+#[derive(Drop)]
 pub(crate) struct Slots<'a> {
     pub(crate) layout: &'a Layout,
     count: u64,

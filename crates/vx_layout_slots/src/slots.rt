@@ -5,7 +5,7 @@ ghost use Rattle.vx_model.specs.Ty.{nullable};
 ghost use Rattle.vx_model.specs.TyView.{ty};
 ghost use Rattle.vx_layout_slots.specs.declared.child_type.LayoutChildType.TheVariants.{Auxiliary, Transparent};
 ghost use Rattle.vx_layout_tree.specs.Children.{fields_of};
-ghost use Rattle.vx_layout_slots.specs.Slots.{slots, slot_place, slot_type, below as below_count, struct_place as place_in_struct, list_place as place_in_list, chunk_type as type_of_chunk, field_type as type_of_field, struct_type as type_in_struct, list_type as type_in_list, dict_type as type_in_dict, zoned_type as type_in_zoned, foreign_type as type_in_foreign};
+ghost use Rattle.vx_layout_slots.specs.Slots.{slots, slot_place, slot_type, below as below_count, bracketed, struct_place as place_in_struct, list_place as place_in_list, chunk_type as type_of_chunk, field_type as type_of_field, struct_type as type_in_struct, list_type as type_in_list, dict_type as type_in_dict, zoned_type as type_in_zoned, foreign_type as type_in_foreign};
 ghost use Rattle.vx_layout_tree.specs.KidsView.{chunks, layout_kids};
 ghost use Rattle.vx_layout_tree.specs.LayoutView.{layout_data};
 ghost use Rattle.vx_session.specs.Made.{kid_rows};
@@ -203,11 +203,17 @@ fn foreign_type(alloc: Global, count: u64, slot: u64) -> Result<Option<LayoutChi
     ensures { IfOk result (λ o. o ≡ type_in_foreign count slot) }
 {
     if slot < count {
-        let name = Text::from(format!(in alloc; "[{slot}]")?);
-        Ok(Some(LayoutChildType::Auxiliary(name)))
+        Ok(Some(LayoutChildType::Auxiliary(in_brackets(alloc, slot)?)))
     } else {
         Ok(None)
     }
+}
+
+/// The number in brackets.
+pub(crate) fn in_brackets(alloc: Global, number: u64) -> Result<Text, AllocError>
+    ensures { IfOk result (λ name. name ≡ bracketed number) }
+{
+    Ok(Text::from(format!(in alloc; "[{number}]")?))
 }
 
 /// Rows of the first children, of `rows` together.

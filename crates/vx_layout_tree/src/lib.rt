@@ -31,7 +31,7 @@ pub use flat::FlatLayout;
 pub use foreign::ForeignLayout;
 pub use kind::LayoutKind;
 pub use kind_ref::KindRef;
-pub use layout::Layout;
+pub use layout::{Layout, drop_layout};
 pub use list::ListLayout;
 pub use own::{
     ELEMENTS_CHILD_INDEX, NUM_CHILDREN_NON_NULLABLE, OFFSETS_CHILD_INDEX, VALIDITY_CHILD_INDEX,

@@ -15,7 +15,7 @@ use crate::kinds::{ChunkedNode, ColumnsNode, FlatNode, ListsNode};
 use crate::zoned_node::{ZonedNode, Zones};
 use std::mem;
 use std::sync::Arc;
-use vx_layout_tree::Layout;
+use vx_layout_tree::{Layout, drop_layout};
 use vx_machine_ids::give_up_pointer;
 use vx_model::DType;
 use vx_order::Order;
@@ -96,7 +96,7 @@ pub fn give_up_local<O: Order>(ctx: &mut LayoutWriterContext, order: &mut O, loc
         Local::Runs(runs) => give_up_runs(order, runs),
         Local::Over => {}
         Local::Passing => {}
-        Local::Made(layout) => drop(layout),
+        Local::Made(layout) => drop_layout(layout),
     }
 }
 

@@ -12,3 +12,4 @@ mod RanSteps
 mod LentSteps
 mod ReadSteps
 mod ColumnCounts
+mod Unstuck

@@ -2,6 +2,7 @@ pub mod Ran
 pub mod Traced
 pub mod RefusedAct
 pub mod Tracking
+pub mod NowhereStuck
 pub mod Written
 pub mod Runs
 pub mod Answered

@@ -1,6 +1,6 @@
 //! The one call that writes a stream.
 
-ghost use Rattle.std.specs.Prelude.{◌≡◌, ◌+◌, ◌-◌, ◌≤◌, ◌^◌, max, List, Some, IfOk, IfErr, OnOk};
+ghost use Rattle.std.specs.Prelude.{◌≡◌, ◌+◌, ◌-◌, ◌≤◌, ◌^◌, max, Bool, List, Some, IfOk, IfErr, OnOk};
 ghost use Rattle.vx_model.specs.ChunkData.{ChunkData};
 ghost use Rattle.vx_layout_tree.specs.LayoutView.{layout_data};
 ghost use Rattle.vx_plan.specs.Valid.{Valid};
@@ -14,7 +14,8 @@ ghost use Rattle.vx_write_answer.specs.Causes.{errs, is_source_fault, is_sink_fa
 ghost use Rattle.vx_machine.specs.Calls.{appends_in, calls_in};
 ghost use Rattle.vx_machine.specs.Context.{setting_of};
 ghost use Rattle.vx_plan.specs.Number.{segments};
-ghost use Rattle.vx_write.specs.Traced.{Traced};
+ghost use Rattle.vx_write.specs.Traced.{tasks_of, Traced};
+ghost use Rattle.vx_write.specs.NowhereStuck.{NowhereStuck};
 ghost use Rattle.vx_write.specs.Written.{Planned, Wrote, Halted};
 ghost use Rattle.vx_write.specs.Answer.{SameContext, steps_of, asked};
 ghost use Rattle.vx_write.specs.Readable.{IsReadable};
@@ -49,6 +50,7 @@ pub struct Refused {
 /// stream, also which one comes. After a refusal earlier segments stand.
 ///
 /// A step counts anew what changed, down to the task that acted, and what has an append that waits for its turn.
+#[tactic(auto, using(crate::proofs::Unstuck::never_stuck))]
 pub fn write_stream<B: BatchSource, S: SegmentSink, C: CompressorPlugin>(
     alloc: Global,
     strategy: &Strategy,
@@ -91,6 +93,10 @@ pub fn write_stream<B: BatchSource, S: SegmentSink, C: CompressorPlugin>(
         (S.next sink.old) (counted ctx.old) xs
         → IsCalm (B.faults source.old) (B.faults source.new) → IsCalm (S.faults sink.old) (S.faults sink.new)
         → IsCalm (C.faults compressor.old) (C.faults compressor.new) → IfErr result (λ r. r.error ≡ OutOfMemory) }
+    // Whatever batches come and whatever is picked, it gets nowhere stuck: until all is done or an act is refused, a task is
+    // ready, and each act leaves one less.
+    ensures never_stuck { (xs : List ChunkData) (ended : Bool)
+        → NowhereStuck (tasks_of (setting_of ctx.old (C.image (C.kind compressor.old))) (strategy_data strategy.now) (B.kind source.old) (is_marked ctx.old) xs ended) }
     // Ok or refused, nothing is held back any more.
     ensures same { SameContext ctx.old ctx.new × (B.kind source.new ≡ B.kind source.old) × (S.borrow sink.new ≡ S.borrow sink.old) × (C.kind compressor.new ≡ C.kind compressor.old) }
 {

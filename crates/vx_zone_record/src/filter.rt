@@ -51,10 +51,14 @@ fn insert(partial: &mut BloomPartial<XxHash3_64>, column: &DType, scalar: Scalar
     match scalar {
         Scalar::Null | Scalar::Nested => {}
         Scalar::Bool(b) => {
-            let _ = partial.insert_scalar(column, &Value::Bool(b));
+            let flag = Value::Bool(b);
+            let _ = partial.insert_scalar(column, &flag);
+            drop(flag);
         }
         Scalar::Int(n) => {
-            let _ = partial.insert_scalar(column, &Value::Int(n));
+            let number = Value::Int(n);
+            let _ = partial.insert_scalar(column, &number);
+            drop(number);
         }
         Scalar::Utf8(text) => partial.insert(text.as_str().as_bytes()),
         Scalar::Binary(bytes) => partial.insert(bytes.as_slice()),

@@ -39,7 +39,10 @@ fn push_held(
     ensures { OnOk result (map aggregate_of kept.new.items ≡ map aggregate_of kept.old.items ++
         names_of (with_state (aggregate_of aggregate) (state_type (aggregate_of aggregate) (ty column.now)))) }
 {
-    if aggregate.state_dtype(column)?.is_some() {
+    let state = aggregate.state_dtype(column)?;
+    let is_held = state.is_some();
+    drop(state);
+    if is_held {
         kept.push(aggregate)?;
     }
     Ok(())

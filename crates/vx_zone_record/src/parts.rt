@@ -76,14 +76,18 @@ pub fn greater(a: Value, b: Value) -> Value
     ensures { val result ≡ greater_of (val a) (val b) }
 {
     if is_null(a.scalar()) {
+        drop(a);
         return b;
     }
     if is_null(b.scalar()) {
+        drop(b);
         return a;
     }
     if is_at_most(a.scalar(), b.scalar()) {
+        drop(a);
         b
     } else {
+        drop(b);
         a
     }
 }
@@ -94,14 +98,18 @@ pub fn lesser(a: Value, b: Value) -> Value
     ensures { val result ≡ lesser_of (val a) (val b) }
 {
     if is_null(a.scalar()) {
+        drop(a);
         return b;
     }
     if is_null(b.scalar()) {
+        drop(b);
         return a;
     }
     if is_at_most(a.scalar(), b.scalar()) {
+        drop(b);
         a
     } else {
+        drop(a);
         b
     }
 }

@@ -56,9 +56,12 @@ fn sum_value(ptype: Option<PType>, total: SumParts) -> Value
     };
     let sum = Value::Int(sum);
     let dtype = DType::Primitive(ptype, Nullability::NonNullable);
-    if is_row_value(&dtype, &sum) {
+    let fits = is_row_value(&dtype, &sum);
+    drop(dtype);
+    if fits {
         sum
     } else {
+        drop(sum);
         Value::Null
     }
 }
