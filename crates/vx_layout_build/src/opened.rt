@@ -202,13 +202,14 @@ fn list_children(
 }
 
 /// The type of a list's elements; another type itself.
-#[tactic(auto, using(vx_layout_tree::proofs::Steps::part_rules))]
+#[tactic(auto, using(vx_model::proofs::Views::view_rules))]
 fn element_type(dtype: &DType) -> &DType
     ensures { ty result.now ≡ type_of_elements (ty dtype.now) }
 {
-    match dtype.as_list() {
-        Some(elements) => elements,
-        None => dtype,
+    match dtype {
+        DType::List(items, _) => items,
+        DType::Bool(_) | DType::Primitive(..) | DType::Utf8(_) | DType::Binary(_) => dtype,
+        DType::Struct(..) | DType::Extension(_) => dtype,
     }
 }
 

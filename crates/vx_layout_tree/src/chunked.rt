@@ -63,7 +63,7 @@ impl ChunkedLayout {
     {
         let has = total_rows(&children);
         if has != row_count as u128 {
-            drop(children);
+            drop((dtype, children));
             return Err(LayoutError::RowCount {
                 has,
                 needs: row_count as u128,

@@ -23,7 +23,7 @@ use crate::flat::FlatLayout;
 use crate::foreign::ForeignLayout;
 use crate::layout::Layout;
 use crate::list::ListLayout;
-use crate::rebuilt::same_segments;
+use crate::rebuilt::same_head;
 use crate::shape::{fields_in, integers_in};
 use crate::stats::LegacyStatsLayout;
 use crate::structs::StructLayout;
@@ -76,8 +76,10 @@ impl ChunkedLayout {
             drop(children);
             return Err(LayoutError::RowCount { has, needs });
         }
-        let segment_ids = same_segments(&self.segment_ids)?;
-        let dtype = self.dtype.clone()?;
+        let Ok((dtype, segment_ids)) = same_head(&self.dtype, &self.segment_ids) else {
+            drop(children);
+            return Err(LayoutError::OutOfMemory);
+        };
         Ok(ChunkedLayout {
             row_count: self.row_count,
             dtype,

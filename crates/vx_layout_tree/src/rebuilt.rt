@@ -16,7 +16,7 @@ use crate::list::ListLayout;
 use crate::stats::LegacyStatsLayout;
 use crate::structs::StructLayout;
 use std::alloc::AllocError;
-use vx_model::SegmentId;
+use vx_model::{DType, SegmentId};
 
 /// The same segments.
 pub(crate) fn same_segments(segment_ids: &Vec<SegmentId>) -> Result<Vec<SegmentId>, AllocError>
@@ -25,14 +25,29 @@ pub(crate) fn same_segments(segment_ids: &Vec<SegmentId>) -> Result<Vec<SegmentI
     Vec::from_slice(*segment_ids.allocator(), segment_ids)
 }
 
+/// The same type and segments.
+pub(crate) fn same_head(
+    dtype: &DType,
+    segment_ids: &Vec<SegmentId>,
+) -> Result<(DType, Vec<SegmentId>), AllocError>
+    ensures dtype { IfOk result (λ h. ty h.0 ≡ ty dtype.now) }
+    ensures segments { IfOk result (λ h. h.1.items ≡ segment_ids.now.items) }
+{
+    let segment_ids = same_segments(segment_ids)?;
+    let dtype = dtype.clone()?;
+    Ok((dtype, segment_ids))
+}
+
 impl ChunkedLayout {
     #[tactic(auto, using(crate::proofs::CopySteps::kind_rules))]
     pub(crate) fn with_same(&self, children: LayoutChildren) -> Result<ChunkedLayout, AllocError>
         requires { chunks (layout_type self.now) children ≡ children_of self.now }
         ensures { IfOk result (λ copy. copy ≡ self.now) }
     {
-        let segment_ids = same_segments(&self.segment_ids)?;
-        let dtype = self.dtype.clone()?;
+        let Ok((dtype, segment_ids)) = same_head(&self.dtype, &self.segment_ids) else {
+            drop(children);
+            return Err(AllocError);
+        };
         Ok(ChunkedLayout {
             row_count: self.row_count,
             dtype,
@@ -49,8 +64,10 @@ impl StructLayout {
         requires same { fields (layout_type self.now) children ≡ children_of self.now }
         ensures { IfOk result (λ copy. copy ≡ self.now) }
     {
-        let segment_ids = same_segments(&self.segment_ids)?;
-        let dtype = self.dtype.clone()?;
+        let Ok((dtype, segment_ids)) = same_head(&self.dtype, &self.segment_ids) else {
+            drop(children);
+            return Err(AllocError);
+        };
         Ok(StructLayout {
             row_count: self.row_count,
             dtype,

@@ -65,13 +65,13 @@ impl StructLayout {
         ensures room { IfErr result (λ e. e ≢ OutOfMemory) }
     {
         if !dtype.is_struct() {
-            drop(children);
+            drop((dtype, children));
             return Err(LayoutError::NotAStruct);
         }
         let has = children.len() as u64;
         let needs = struct_children(&dtype);
         if has != needs {
-            drop(children);
+            drop((dtype, children));
             return Err(LayoutError::ChildCount { has, needs });
         }
         Ok(StructLayout {

@@ -11,5 +11,4 @@ mod WriteSteps
 mod RanSteps
 mod LentSteps
 mod ReadSteps
-mod ColumnCounts
 mod Unstuck

@@ -5,7 +5,6 @@ ghost use Rattle.vx_model.specs.TyView.{ty};
 ghost use Rattle.vx_strategy.specs.StrategyView.{strategy_data};
 ghost use Rattle.vx_write.specs.ColumnCount.{column_count, columns_of};
 
-use vx_layout_tree::struct_children;
 use vx_model::DType;
 use vx_strategy::Strategy;
 
@@ -22,12 +21,20 @@ pub fn column_count(strategy: &Strategy, dtype: &DType) -> Option<u64>
     }
 }
 
-#[tactic(auto, using(crate::proofs::ColumnCounts::column_rules))]
+#[tactic(auto, using(vx_layout_tree::proofs::Steps::field_rules))]
 fn columns_of(dtype: &DType) -> Option<u64>
     ensures { result ≡ columns_of (ty dtype.now) }
 {
-    if !dtype.is_struct() {
-        return None;
+    match dtype {
+        DType::Struct(fields, _) => {
+            let count = fields.fields.len() as u64;
+            Some(if dtype.is_nullable() {
+                count + 1
+            } else {
+                count
+            })
+        }
+        DType::Bool(_) | DType::Primitive(..) | DType::Utf8(_) | DType::Binary(_) => None,
+        DType::List(..) | DType::Extension(_) => None,
     }
-    Some(struct_children(dtype))
 }

@@ -8,6 +8,7 @@ ghost use Rattle.vx_model.specs.Words.{all_by};
 ghost use Rattle.vx_model.specs.TyView.{ty};
 ghost use Rattle.vx_model.specs.TreeView.{val};
 ghost use Rattle.vx_model.specs.ValueData.{is_row_value};
+ghost use Rattle.vx_aggregate_spec.specs.Aggregate.{sum_of_type, sum_type};
 ghost use Rattle.vx_aggregate.specs.AggregateView.{aggregate as aggregate_of};
 ghost use Rattle.vx_zone_spec.specs.Record.{sum_value, aggregate_value};
 ghost use Rattle.vx_zone_record_spec.specs.Held.{has_state};
@@ -18,7 +19,7 @@ use crate::folds::{SumParts, greatest, least, null_count, total};
 use crate::row::Row;
 use crate::scalar::to_value;
 use std::alloc::{AllocError, Global};
-use vx_aggregate::{AggregateFn, sum_ptype};
+use vx_aggregate::AggregateFn;
 use vx_model::{DType, Nullability, PType, Value, is_row_value};
 
 /// The aggregate's value of these rows.
@@ -84,4 +85,25 @@ fn difference(above: u128, below: u128) -> Option<i128>
         return None;
     }
     Some(-(size as i128))
+}
+
+/// The type of a column's sums.
+fn sum_ptype(column: &DType) -> Option<PType>
+    ensures { result ≡ sum_of_type (ty column.now) }
+{
+    match column {
+        DType::Bool(_) => Some(PType::U64),
+        DType::Primitive(ptype, _) => Some(sum_type(*ptype)),
+        DType::Utf8(_) | DType::Binary(_) | DType::List(..) | DType::Struct(..) => None,
+        DType::Extension(ext) => sum_ptype(&ext.storage),
+    }
+}
+
+fn sum_type(ptype: PType) -> PType
+    ensures { result ≡ sum_type ptype }
+{
+    match ptype {
+        PType::U8 | PType::U16 | PType::U32 | PType::U64 => PType::U64,
+        PType::I8 | PType::I16 | PType::I32 | PType::I64 => PType::I64,
+    }
 }
