@@ -42,28 +42,17 @@ fn tell_object<C: TypedCases>(
 ) {
     match dtype_in(alloc, object, "schema") {
         Ok(dtype) => {
-            tell_of::<C>(alloc, answer, name, words, object, &dtype);
+            let (word, given) = cut(words);
+            let case = Case {
+                name,
+                word,
+                given,
+                object,
+                dtype: &dtype,
+            };
+            C::tell(alloc, answer, case);
             drop(dtype);
         }
         Err(error) => answer.push_refusal(name, error),
     }
-}
-
-fn tell_of<C: TypedCases>(
-    alloc: Global,
-    answer: &mut Answer,
-    name: &str,
-    words: &str,
-    object: &Value,
-    dtype: &DType,
-) {
-    let (word, given) = cut(words);
-    let case = Case {
-        name,
-        word,
-        given,
-        object,
-        dtype,
-    };
-    C::tell(alloc, answer, case);
 }

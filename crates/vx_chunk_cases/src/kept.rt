@@ -72,10 +72,8 @@ pub(crate) fn validity(alloc: Global, chunk: &Chunk) -> anyhow::Result<Chunk> {
 /// The rows from the first place to the second.
 fn slice(alloc: Global, chunk: &Chunk, word: &str) -> anyhow::Result<Chunk> {
     let (from, to) = word.split_once("..").context("no such word")?;
-    slice_of(alloc, chunk, from.parse::<u64>()?, to.parse::<u64>()?)
-}
-
-fn slice_of(alloc: Global, chunk: &Chunk, from: u64, to: u64) -> anyhow::Result<Chunk> {
+    let from = from.parse::<u64>()?;
+    let to = to.parse::<u64>()?;
     if from > to || to > chunk.len() {
         bail!("no such rows");
     }

@@ -12,7 +12,9 @@ use vx_model::{Cell, Value};
 pub(crate) fn push_values(alloc: Global, answer: &mut Answer, values: &[Value]) {
     answer.push_str("[");
     for i in 0..values.len() {
-        push_comma(answer, i > 0);
+        if i > 0 {
+            answer.push_str(",");
+        }
         push_value(alloc, answer, &values[i]);
     }
     answer.push_str("]");
@@ -33,7 +35,9 @@ fn push_value(alloc: Global, answer: &mut Answer, value: &Value) {
 #[cycle(cells)]
 fn push_cells(alloc: Global, answer: &mut Answer, cells: &[Cell]) {
     for i in 0..cells.len() {
-        push_comma(answer, i > 0);
+        if i > 0 {
+            answer.push_str(",");
+        }
         push_cell(alloc, answer, &cells[i]);
     }
 }
@@ -56,12 +60,6 @@ fn push_cell(alloc: Global, answer: &mut Answer, cell: &Cell) {
             push_cells(alloc, answer, cells);
             answer.push_str("}");
         }
-    }
-}
-
-fn push_comma(answer: &mut Answer, later: bool) {
-    if later {
-        answer.push_str(",");
     }
 }
 

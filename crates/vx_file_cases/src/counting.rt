@@ -65,18 +65,21 @@ fn ended(
     Ok(format!(in alloc; "{ending}, {counted} bytes counted")?)
 }
 
+/// A source of the batches.
+fn source(alloc: Global, fails: &str, batches: &str) -> anyhow::Result<Box<ListSource>> {
+    let fails = calls(alloc, fails)?;
+    let batches = integers(alloc, batches)?;
+    Ok(boxed(alloc, ListSource::new(INTEGERS, batches, fails))?)
+}
+
 pub(crate) fn told(alloc: Global, given: &str) -> anyhow::Result<String> {
     let (before, rest) = cut(given);
     let before = before.parse::<u64>()?;
     let (of_source, rest) = cut(rest);
     let (of_sink, rest) = cut(rest);
     let (by, batches) = parts(rest)?;
-    let by = strategy(alloc, by)?;
-    let batches = integers(alloc, batches)?;
-    let mut source = boxed(
-        alloc,
-        ListSource::new(INTEGERS, batches, calls(alloc, of_source)?),
-    )?;
     let mut sink = boxed(alloc, MemorySink::new(0, calls(alloc, of_sink)?))?;
+    let mut source = source(alloc, of_source, batches)?;
+    let by = strategy(alloc, by)?;
     ended(alloc, &by, before, &mut source, &mut sink)
 }

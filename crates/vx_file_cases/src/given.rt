@@ -22,15 +22,11 @@ pub(crate) fn dtype(alloc: Global, json: &str) -> anyhow::Result<Box<DType>> {
     Ok(boxed(alloc, read_type(alloc, &value)?)?)
 }
 
-fn chunk(alloc: Global, dtype: &DType, json: &str) -> anyhow::Result<Chunk> {
-    let value = value(alloc, json)?;
-    Ok(read_batch(alloc, dtype, &value)?)
-}
-
 /// The batch of the type.
 pub(crate) fn chunk_of(alloc: Global, of: &str, json: &str) -> anyhow::Result<Chunk> {
     let dtype = dtype(alloc, of)?;
-    chunk(alloc, &dtype, json)
+    let value = value(alloc, json)?;
+    Ok(read_batch(alloc, &dtype, &value)?)
 }
 
 /// A batch of integers for each part.

@@ -18,13 +18,6 @@ fn segment(alloc: Global, of: &str, batch: &str) -> anyhow::Result<Vec<u8>> {
     encoded(alloc, &chunk)
 }
 
-/// The batch's segment, as the segment 0.
-fn batch_segment(alloc: Global, given: &str) -> anyhow::Result<SegmentMap> {
-    let (of, batch) = parts(given)?;
-    let bytes = segment(alloc, of, batch)?;
-    Ok(alone(alloc, 0, bytes)?)
-}
-
 /// The segment of 1 and 2 with these bytes behind it, as the segment 3.
 fn segment_and(alloc: Global, behind: &str) -> anyhow::Result<SegmentMap> {
     let behind = if behind == "-" { "" } else { behind };
@@ -34,22 +27,13 @@ fn segment_and(alloc: Global, behind: &str) -> anyhow::Result<SegmentMap> {
     Ok(alone(alloc, 3, bytes)?)
 }
 
-/// This segment with the bytes of the case.
-fn longer_segment(alloc: Global, given: &str) -> anyhow::Result<SegmentMap> {
-    let (_, behind) = given.rsplit_once(" / ").context("no bytes")?;
-    segment_and(alloc, behind)
-}
-
-fn written_segments(alloc: Global, given: &str) -> anyhow::Result<SegmentMap> {
-    let (_, batches) = parts(given)?;
-    segments_of(alloc, batches)
-}
-
+/// The batch's segment as the segment 0, that segment with the bytes of the case, or those that are written.
 fn segments_in(alloc: Global, word: &str, given: &str) -> anyhow::Result<SegmentMap> {
+    let (of, rest) = parts(given)?;
     match word {
-        "rows" => batch_segment(alloc, given),
-        "read" => longer_segment(alloc, given),
-        _ => written_segments(alloc, given),
+        "rows" => Ok(alone(alloc, 0, segment(alloc, of, rest)?)?),
+        "read" => segment_and(alloc, rest.rsplit_once(" / ").context("no bytes")?.1),
+        _ => segments_of(alloc, rest),
     }
 }
 
@@ -66,30 +50,19 @@ fn row_count(alloc: Global, of: &str, batch: &str) -> anyhow::Result<u64> {
     Ok(chunk.len())
 }
 
-/// All rows of the batch, in the segment 0.
-fn batch_layout(alloc: Global, given: &str) -> anyhow::Result<Layout> {
-    let (of, batch) = parts(given)?;
-    let rows = row_count(alloc, of, batch)?;
-    laid(alloc, of, rows, 0)
-}
-
-fn flat_layout(alloc: Global, given: &str) -> anyhow::Result<Layout> {
-    let (of, rest) = parts(given)?;
+fn flat_layout(alloc: Global, of: &str, rest: &str) -> anyhow::Result<Layout> {
     let (rows, rest) = parts(rest)?;
     let (number, _) = parts(rest)?;
     laid(alloc, of, rows.parse::<u64>()?, number.parse::<u32>()?)
 }
 
-fn parsed_layout(alloc: Global, given: &str) -> anyhow::Result<Layout> {
-    let (bytes, _) = parts(given)?;
-    parsed(alloc, bytes)
-}
-
+/// All rows of the batch in the segment 0, the rows of the case, or the layout that the bytes are.
 fn layout_in(alloc: Global, word: &str, given: &str) -> anyhow::Result<Layout> {
+    let (of, rest) = parts(given)?;
     match word {
-        "rows" => batch_layout(alloc, given),
-        "read" => flat_layout(alloc, given),
-        _ => parsed_layout(alloc, given),
+        "rows" => laid(alloc, of, row_count(alloc, of, rest)?, 0),
+        "read" => flat_layout(alloc, of, rest),
+        _ => parsed(alloc, of),
     }
 }
 

@@ -49,14 +49,10 @@ pub(crate) fn parsed(alloc: Global, text: &str) -> anyhow::Result<Layout> {
     parsed_in(alloc, bytes, &ids, &session)
 }
 
-fn bytes_of(alloc: Global, layout: &Layout) -> anyhow::Result<Vec<u8>> {
-    let ids = ids(alloc)?;
-    Ok(layout_bytes(alloc, layout, &ids)?)
-}
-
 fn bytes_written(alloc: Global, batches: &str) -> anyhow::Result<Vec<u8>> {
     let layout = layout_of(alloc, batches)?;
-    bytes_of(alloc, &layout)
+    let ids = ids(alloc)?;
+    Ok(layout_bytes(alloc, &layout, &ids)?)
 }
 
 pub(crate) fn spelled(alloc: Global, given: &str) -> anyhow::Result<String> {

@@ -14,9 +14,9 @@ use vx_model::{DType, Nullability, Value};
 /// Of the words `accumulate`, `insert_list` and `state`.
 pub(crate) fn tell(alloc: Global, answer: &mut Answer, word: &str, given: &str) {
     match word {
-        "accumulate" => push_accumulated(alloc, answer, filter_of(alloc, given)),
-        "insert_list" => push_inserted(answer, inserted(alloc, given == "null")),
-        _ => push_state(answer, state(alloc, given == "list")),
+        "accumulate" => push_accumulated(alloc, answer, given),
+        "insert_list" => push_inserted(alloc, answer, given == "null"),
+        _ => push_state(alloc, answer, given == "list"),
     }
 }
 
@@ -51,8 +51,8 @@ fn filter_of(alloc: Global, given: &str) -> anyhow::Result<Partial> {
     Ok(partial)
 }
 
-fn push_accumulated(alloc: Global, answer: &mut Answer, partial: anyhow::Result<Partial>) {
-    match partial {
+fn push_accumulated(alloc: Global, answer: &mut Answer, given: &str) {
+    match filter_of(alloc, given) {
         Ok(partial) => {
             push_values(answer, &partial, filter(alloc, "256"));
             drop(partial);
@@ -73,19 +73,14 @@ fn push_values(answer: &mut Answer, partial: &Partial, empty: Result<Partial, Al
 }
 
 fn push_contains(answer: &mut Answer, partial: &Partial, word: &str) {
-    match contains(partial, word) {
+    let dtype = DType::Bool(Nullability::Nullable);
+    let value = value(word);
+    match partial.contains_scalar(&dtype, &value) {
         Ok(contains) => write!(answer, ", {word} {contains}"),
         Err(error) => answer.push_debug(error),
     }
-}
-
-fn contains(partial: &Partial, word: &str) -> Result<bool, Unsupported> {
-    let dtype = DType::Bool(Nullability::Nullable);
-    let value = value(word);
-    let contains = partial.contains_scalar(&dtype, &value);
     drop(value);
     drop(dtype);
-    contains
 }
 
 /// Lists of booleans, or booleans.
@@ -118,33 +113,31 @@ fn insert_list(
 }
 
 /// What an empty filter says to it.
-fn inserted(alloc: Global, null: bool) -> Result<Result<(), Unsupported>, AllocError> {
-    let mut partial = BloomFilter.empty_partial(alloc, &BloomOptions::default())?;
-    let inserted = insert_list(alloc, &mut partial, null);
-    drop(partial);
-    inserted
-}
-
-fn push_inserted(answer: &mut Answer, inserted: Result<Result<(), Unsupported>, AllocError>) {
-    match inserted {
-        Ok(Ok(())) => answer.push_str("Ok"),
-        Ok(Err(error)) => answer.push_debug(error),
+fn push_inserted(alloc: Global, answer: &mut Answer, null: bool) {
+    match BloomFilter.empty_partial(alloc, &BloomOptions::default()) {
+        Ok(mut partial) => {
+            match insert_list(alloc, &mut partial, null) {
+                Ok(Ok(())) => answer.push_str("Ok"),
+                Ok(Err(error)) => answer.push_debug(error),
+                Err(error) => answer.push(error),
+            }
+            drop(partial);
+        }
         Err(error) => answer.push(error),
     }
 }
 
 /// Of the state on lists of booleans, or on booleans.
-fn state(alloc: Global, list: bool) -> Result<Option<DType>, AllocError> {
-    let dtype = dtype_of(alloc, list)?;
-    let state = BloomFilter.state_dtype(&dtype);
-    drop(dtype);
-    state
-}
-
-fn push_state(answer: &mut Answer, state: Result<Option<DType>, AllocError>) {
-    match state {
-        Ok(Some(dtype)) => answer.push(dtype),
-        Ok(None) => answer.push_str("none"),
+fn push_state(alloc: Global, answer: &mut Answer, list: bool) {
+    match dtype_of(alloc, list) {
+        Ok(dtype) => {
+            match BloomFilter.state_dtype(&dtype) {
+                Ok(Some(state)) => answer.push(state),
+                Ok(None) => answer.push_str("none"),
+                Err(error) => answer.push(error),
+            }
+            drop(dtype);
+        }
         Err(error) => answer.push(error),
     }
 }

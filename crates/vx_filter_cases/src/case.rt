@@ -2,6 +2,7 @@
 
 use crate::{booleans, filters, hashes, lanes, options, scalars, stored};
 use std::alloc::Global;
+use vx_bloom::BloomFilter;
 use vx_case_lines::{Answer, Cases, cut};
 
 pub(crate) struct FilterCases;
@@ -12,21 +13,17 @@ impl Cases for FilterCases {
         let (word, given) = cut(rest);
         answer.push_str(name);
         answer.push_str(": ");
-        tell_word(alloc, answer, word, given);
+        match word {
+            "hash" => hashes::tell(alloc, answer, given),
+            "lanes" => lanes::tell(alloc, answer, given),
+            "options" => options::tell(alloc, answer, given),
+            "default_options" => options::tell_default(alloc, answer),
+            "scalar" => scalars::tell(alloc, answer, given),
+            "accumulate" | "insert_list" | "state" => booleans::tell(alloc, answer, word, given),
+            "stored" | "stored_null" => stored::tell(alloc, answer, word, given),
+            "id" => answer.push_str(BloomFilter.id()),
+            _ => filters::tell(alloc, answer, word, given),
+        }
         answer.push_str("\n");
-    }
-}
-
-fn tell_word(alloc: Global, answer: &mut Answer, word: &str, given: &str) {
-    match word {
-        "hash" => hashes::tell(alloc, answer, given),
-        "lanes" => lanes::tell(alloc, answer, given),
-        "options" => options::tell(alloc, answer, given),
-        "default_options" => options::tell_default(alloc, answer),
-        "scalar" => scalars::tell(alloc, answer, given),
-        "accumulate" | "insert_list" | "state" => booleans::tell(alloc, answer, word, given),
-        "stored" | "stored_null" => stored::tell(alloc, answer, word, given),
-        "id" => stored::tell_id(answer),
-        _ => filters::tell(alloc, answer, word, given),
     }
 }

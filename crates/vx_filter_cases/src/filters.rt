@@ -5,7 +5,7 @@ use std::alloc::{AllocError, Global};
 use std::num::NonZeroU32;
 use vx_bloom::{BlockCount, BloomFilter, BloomOptions, BloomPartial, HashFn, PartialError};
 use vx_case_lines::{Answer, cut, halves};
-use vx_hash::{ByteHash, XxHash3_64};
+use vx_hash::XxHash3_64;
 
 pub(crate) type Partial = BloomPartial<XxHash3_64>;
 
@@ -14,33 +14,29 @@ pub(crate) fn options(blocks: u32) -> BloomOptions {
     BloomOptions::new(blocks, HashFn::XxHash3_64)
 }
 
-/// The filter of these words.
-fn filter_of<H: ByteHash>(
-    alloc: Global,
-    blocks: u32,
-    words: &str,
-) -> Result<BloomPartial<H>, AllocError> {
-    let mut partial = BloomPartial::from(alloc, &options(blocks))?;
+/// The filter of so many blocks and of these words.
+pub(crate) fn filter(alloc: Global, given: &str) -> Result<Partial, AllocError> {
+    let (blocks, words) = cut(given);
+    let mut partial = Partial::from(alloc, &options(count(blocks)))?;
     for word in words.split_whitespace() {
         partial.insert(word.as_bytes());
     }
     Ok(partial)
 }
 
-pub(crate) fn filter(alloc: Global, given: &str) -> Result<Partial, AllocError> {
-    let (blocks, words) = cut(given);
-    filter_of(alloc, count(blocks), words)
-}
-
 /// Of the words `filter`, `contains`, `read`, `saturated`, `union` and `merge`.
 pub(crate) fn tell(alloc: Global, answer: &mut Answer, word: &str, given: &str) {
     let (first, rest) = halves(given);
     match word {
-        "read" => push_read(answer, read(alloc, first), filter(alloc, rest)),
-        "saturated" => push_saturated(answer, read(alloc, first)),
-        "filter" => push_bytes(alloc, answer, serialized(alloc, first)),
-        "contains" => push_contains(answer, filter(alloc, first), rest),
-        _ => push_union(alloc, answer, word, first, rest),
+        "read" => push_read(alloc, answer, first, rest),
+        "saturated" => push_saturated(alloc, answer, first),
+        "filter" => push_bytes(alloc, answer, first),
+        "contains" => push_contains(alloc, answer, first, rest),
+        _ => {
+            if let Err(error) = push_union(alloc, answer, word, first, rest) {
+                answer.push(error);
+            }
+        }
     }
 }
 
@@ -51,8 +47,8 @@ fn serialized(alloc: Global, given: &str) -> Result<Vec<u8>, AllocError> {
     bytes
 }
 
-fn push_contains(answer: &mut Answer, filter: Result<Partial, AllocError>, word: &str) {
-    match filter {
+fn push_contains(alloc: Global, answer: &mut Answer, given: &str, word: &str) {
+    match filter(alloc, given) {
         Ok(filter) => {
             answer.push(filter.contains(word.as_bytes()));
             drop(filter);
@@ -61,8 +57,8 @@ fn push_contains(answer: &mut Answer, filter: Result<Partial, AllocError>, word:
     }
 }
 
-fn push_bytes(alloc: Global, answer: &mut Answer, bytes: Result<Vec<u8>, AllocError>) {
-    match bytes {
+fn push_bytes(alloc: Global, answer: &mut Answer, given: &str) {
+    match serialized(alloc, given) {
         Ok(bytes) => {
             push_blocks(alloc, answer, &bytes);
             drop(bytes);
@@ -94,25 +90,26 @@ fn read(alloc: Global, digits: &str) -> Result<Partial, PartialError> {
     read
 }
 
-fn push_read(
-    answer: &mut Answer,
-    read: Result<Partial, PartialError>,
-    wanted: Result<Partial, AllocError>,
-) {
-    match read {
-        Ok(filter) => {
+/// Whether the filter that the bytes are is the one that is wanted.
+fn push_read(alloc: Global, answer: &mut Answer, digits: &str, wanted: &str) {
+    match read(alloc, digits) {
+        Ok(one) => {
             answer.push_str("equal ");
-            push_equal(answer, filter, wanted);
+            match filter(alloc, wanted) {
+                Ok(wanted) => {
+                    answer.push(one == wanted);
+                    drop(wanted);
+                }
+                Err(error) => answer.push(error),
+            }
+            drop(one);
         }
-        Err(error) => {
-            drop(wanted);
-            answer.push_debug(error);
-        }
+        Err(error) => answer.push_debug(error),
     }
 }
 
-fn push_saturated(answer: &mut Answer, read: Result<Partial, PartialError>) {
-    match read {
+fn push_saturated(alloc: Global, answer: &mut Answer, digits: &str) {
+    match read(alloc, digits) {
         Ok(filter) => {
             answer.push(BloomFilter.is_saturated(&filter));
             answer.push_str(" ");
@@ -124,68 +121,23 @@ fn push_saturated(answer: &mut Answer, read: Result<Partial, PartialError>) {
 }
 
 /// The filter with a second one, and a third that both together are to be.
-fn push_union(alloc: Global, answer: &mut Answer, word: &str, first: &str, rest: &str) {
-    let (second, third) = halves(rest);
-    match filter(alloc, first) {
-        Ok(one) => push_with(
-            answer,
-            word,
-            one,
-            filter(alloc, second),
-            filter(alloc, third),
-        ),
-        Err(error) => answer.push(error),
-    }
-}
-
-fn push_with(
+fn push_union(
+    alloc: Global,
     answer: &mut Answer,
     word: &str,
-    mut one: Partial,
-    other: Result<Partial, AllocError>,
-    wanted: Result<Partial, AllocError>,
-) {
-    match other {
-        Ok(other) => {
-            write!(answer, "equal {}, then ", one == other);
-            let united = unite(word, &mut one, &other);
-            drop(other);
-            push_united(answer, united, one, wanted);
-        }
-        Err(error) => {
-            drop(one);
-            drop(wanted);
-            answer.push(error);
-        }
+    first: &str,
+    rest: &str,
+) -> Result<(), AllocError> {
+    let (second, wanted) = halves(rest);
+    let mut one = filter(alloc, first)?;
+    let other = filter(alloc, second)?;
+    let wanted = filter(alloc, wanted)?;
+    write!(answer, "equal {}, then ", one == other);
+    match unite(word, &mut one, &other) {
+        Ok(()) => answer.push(one == wanted),
+        Err(error) => answer.push_debug(error),
     }
-}
-
-fn push_united(
-    answer: &mut Answer,
-    united: Result<(), BlockCount>,
-    both: Partial,
-    wanted: Result<Partial, AllocError>,
-) {
-    match united {
-        Ok(()) => push_equal(answer, both, wanted),
-        Err(error) => {
-            drop(both);
-            drop(wanted);
-            answer.push_debug(error);
-        }
-    }
-}
-
-/// Whether the filter is the one that is wanted.
-fn push_equal(answer: &mut Answer, filter: Partial, wanted: Result<Partial, AllocError>) {
-    match wanted {
-        Ok(wanted) => {
-            answer.push(filter == wanted);
-            drop(wanted);
-        }
-        Err(error) => answer.push(error),
-    }
-    drop(filter);
+    Ok(())
 }
 
 fn unite(word: &str, a: &mut Partial, b: &Partial) -> Result<(), BlockCount> {

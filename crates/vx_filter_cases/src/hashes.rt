@@ -16,20 +16,13 @@ fn bytes_of_length(alloc: Global, length: u32) -> Result<Vec<u8>, AllocError> {
     Ok(bytes)
 }
 
-fn hash_of<H: ByteHash>(bytes: &[u8]) -> u64 {
-    H::oneshot(bytes)
-}
-
 pub(crate) fn tell(alloc: Global, answer: &mut Answer, given: &str) {
     match bytes_of_length(alloc, count(given)) {
         Ok(bytes) => {
-            push_hash(alloc, answer, hash_of::<XxHash3_64>(&bytes));
+            let hash = XxHash3_64::oneshot(&bytes);
             drop(bytes);
+            answer.push_given(hex::encode(alloc, &hash.to_be_bytes()));
         }
         Err(error) => answer.push(error),
     }
-}
-
-fn push_hash(alloc: Global, answer: &mut Answer, hash: u64) {
-    answer.push_given(hex::encode(alloc, &hash.to_be_bytes()));
 }

@@ -105,18 +105,14 @@ fn tell_of(alloc: Global, answer: &mut Answer, lanes: &Partial, blocks: NonZeroU
         Ok(plain) => {
             write!(answer, "equal {}", are_equal(lanes, &plain, blocks));
             push_unions(alloc, answer, lanes, blocks, count);
-            push_found(answer, lanes, &plain, 2 * count);
+            let found = found_of(lanes, 2 * count);
+            let found_plain = found_of_plain(&plain, 2 * count);
+            write!(answer, ", found {found} {found_plain}, saturated ");
+            write!(answer, "{} {}", lanes.is_saturated(), plain.is_saturated());
             drop(plain);
         }
         Err(error) => answer.push(error),
     }
-}
-
-fn push_found(answer: &mut Answer, lanes: &Partial, plain: &PlainFilter, to: u64) {
-    let found = found_of(lanes, to);
-    let found_plain = found_of_plain(plain, to);
-    write!(answer, ", found {found} {found_plain}, saturated ");
-    write!(answer, "{} {}", lanes.is_saturated(), plain.is_saturated());
 }
 
 /// Whether the filters of the two halves together are the filter, in both forms.
@@ -127,22 +123,13 @@ fn push_unions(alloc: Global, answer: &mut Answer, lanes: &Partial, blocks: NonZ
         Ok(plain) => {
             let equal = are_equal(lanes, &plain, blocks);
             drop(plain);
-            push_union(answer, lanes, union_of(alloc, blocks, count), equal);
-        }
-        Err(error) => answer.push(error),
-    }
-}
-
-fn push_union(
-    answer: &mut Answer,
-    lanes: &Partial,
-    united: anyhow::Result<Partial>,
-    plain_is_equal: bool,
-) {
-    match united {
-        Ok(united) => {
-            write!(answer, ", unions {}", plain_is_equal && united == *lanes);
-            drop(united);
+            match union_of(alloc, blocks, count) {
+                Ok(united) => {
+                    write!(answer, ", unions {}", equal && united == *lanes);
+                    drop(united);
+                }
+                Err(error) => answer.push(error),
+            }
         }
         Err(error) => answer.push(error),
     }

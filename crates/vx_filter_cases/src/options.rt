@@ -1,7 +1,7 @@
 //! Options of filters as bytes.
 
 use crate::given::bytes;
-use std::alloc::{AllocError, Global};
+use std::alloc::Global;
 use vx_bloom::BloomOptions;
 use vx_case_lines::Answer;
 
@@ -17,12 +17,11 @@ pub(crate) fn tell(alloc: Global, answer: &mut Answer, given: &str) {
 
 /// The bytes of those by default.
 pub(crate) fn tell_default(alloc: Global, answer: &mut Answer) {
-    answer.push_given(default_digits(alloc));
-}
-
-fn default_digits(alloc: Global) -> Result<String, AllocError> {
-    let bytes = BloomOptions::default().serialize(alloc)?;
-    let digits = hex::encode(alloc, bytes.as_slice());
-    drop(bytes);
-    digits
+    match BloomOptions::default().serialize(alloc) {
+        Ok(bytes) => {
+            answer.push_given(hex::encode(alloc, bytes.as_slice()));
+            drop(bytes);
+        }
+        Err(error) => answer.push(error),
+    }
 }

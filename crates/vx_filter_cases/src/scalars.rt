@@ -101,20 +101,10 @@ fn push_hashed(
     let mut by_value = Partial::from(alloc, &options(16))?;
     by_value.insert_scalar(dtype, value)?;
     let contained = by_value.contains_scalar(dtype, value)?;
-    push_equal(answer, by_value, filter_of_bytes(alloc, hashed));
-    write!(answer, ", contained {contained}");
+    let by_bytes = filter_of_bytes(alloc, hashed)?;
+    let equal = by_value == by_bytes;
+    write!(answer, "equal {equal}, contained {contained}");
     Ok(())
-}
-
-fn push_equal(answer: &mut Answer, by_value: Partial, by_bytes: Result<Partial, AllocError>) {
-    match by_bytes {
-        Ok(by_bytes) => {
-            write!(answer, "equal {}", by_value == by_bytes);
-            drop(by_bytes);
-        }
-        Err(error) => answer.push(error),
-    }
-    drop(by_value);
 }
 
 fn filter_of_bytes(alloc: Global, digits: &str) -> Result<Partial, AllocError> {

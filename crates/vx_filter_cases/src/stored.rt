@@ -47,7 +47,3 @@ fn push_read(answer: &mut Answer, filter: &Partial, read: Result<Partial, Partia
         Err(error) => answer.push_debug(error),
     }
 }
-
-pub(crate) fn tell_id(answer: &mut Answer) {
-    answer.push_str(BloomFilter.id());
-}

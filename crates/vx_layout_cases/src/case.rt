@@ -20,21 +20,17 @@ pub(crate) fn answers(rt: &impl Threads, alloc: Global, text: &str) -> Result<St
 /// The lines of the answer, each behind the name of the case.
 fn tell(rt: &impl Threads, alloc: Global, answer: &mut Answer, line: &str) {
     let (name, asked) = cut(line);
-    let mut told = Answer::new(alloc);
-    tell_asked(rt, alloc, &mut told, asked);
-    answer.push_lines(name, told);
-}
-
-fn tell_asked(rt: &impl Threads, alloc: Global, answer: &mut Answer, asked: &str) {
     let (head, given) = asked.split_once(" = ").unwrap_or((asked, ""));
     let (word, args) = cut(head);
+    let mut told = Answer::new(alloc);
     if word == "build" {
-        tell_of(rt, alloc, answer, word, args, asked);
+        tell_of(rt, alloc, &mut told, word, args, asked);
     } else if given.is_empty() {
-        tell_alone(alloc, answer, word, args);
+        tell_alone(alloc, &mut told, word, args);
     } else {
-        tell_of(rt, alloc, answer, word, args, given);
+        tell_of(rt, alloc, &mut told, word, args, given);
     }
+    answer.push_lines(name, told);
 }
 
 fn tell_of(

@@ -58,9 +58,13 @@
 mod answers;
 mod case;
 mod children;
+mod given;
+mod layouts;
+mod nodes;
 mod opened;
 mod own;
 mod parts;
+mod scopes;
 mod segments;
 mod sessions;
 mod shown;

@@ -28,18 +28,14 @@ impl TypedCases for RuleCases {
                     dtype: case.dtype,
                     batches,
                 };
-                tell_stream(alloc, answer, case, stream);
+                match case.word {
+                    "compress" => images::tell(alloc, answer, case.given, stream),
+                    "table" => table::tell(alloc, answer, stream),
+                    "zones" | "guard" => zones::tell(alloc, answer, case, stream),
+                    word => rules::tell(alloc, answer, word, case.given, stream),
+                }
             }
             Err(error) => answer.push_refusal(case.name, error),
         }
-    }
-}
-
-fn tell_stream(alloc: Global, answer: &mut Answer, case: Case, stream: Stream) {
-    match case.word {
-        "compress" => images::tell(alloc, answer, case.given, stream),
-        "table" => table::tell(alloc, answer, stream),
-        "zones" | "guard" => zones::tell(alloc, answer, case, stream),
-        word => rules::tell(alloc, answer, word, case.given, stream),
     }
 }
