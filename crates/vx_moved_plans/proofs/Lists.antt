@@ -1,5 +1,5 @@
--- Lists whose paths are moved, numbers that are near, and plans side by side.
-use Rattle.std.proofs.Common.{◌≡◌, ℕ, suc, ◌+◌, List, [], ◌∷◌, ◌++◌, map, length, refl, sym, ap, ap₂, ◌∙◌, subst, inl, inr, arith, append_assoc}
+-- Lists whose paths are moved, and plans side by side.
+use Rattle.std.proofs.Common.{◌≡◌, ℕ, suc, ◌+◌, List, [], ◌∷◌, ◌++◌, map, length, refl, sym, ap, ap₂, ◌∙◌, subst, append_assoc}
 use Rattle.std.proofs.lemmas.List.{append-nil}
 use Rattle.vx_model.specs.Ty.{Ty}
 use Rattle.vx_model.specs.ChunkData.{ChunkData}
@@ -9,30 +9,7 @@ use Rattle.vx_layout_spec.specs.LayoutTree.{LayoutData, LayoutList, layout, chil
 use Rattle.vx_plan.specs.PlanData.{Pair, Item, Plan, Fault, fault, summed, totals}
 use Rattle.vx_plan.specs.GroupNode.{with_numbers}
 use Rattle.vx_plan.specs.ChunkedNode.{all_pairs, all_faults, all_layouts, all_numbers, all_reserved, whole, both_plans}
-use Rattle.vx_moved_plans.specs.Moved.{Moving, moved_items, moved_pairs, moved_place, moved_faults, GoesAlong, AllGoAlong, IsNear, AllNear, EofGoes, IsMoved}
-
--- ---- numbers that are near
-
-pub near_self : (ns : List ℕ) → AllNear ns ns
-near_self [] = tt
-near_self (n ∷ ns) = (inl refl, near_self ns)
-
-pub near_same : (ns ms : List ℕ) → ns ≡ ms → AllNear ns ms
-near_same ns ms e = subst (λ z. AllNear ns z) e (near_self ns)
-
-pub near_both : (ms ns cs ds : List ℕ) → AllNear ms ns → AllNear cs ds → AllNear (ms ++ cs) (ns ++ ds)
-near_both [] [] cs ds g h = h
-near_both [] (b ∷ ns) cs ds g h = absurd g
-near_both (a ∷ ms) [] cs ds g h = absurd g
-near_both (a ∷ ms) (b ∷ ns) cs ds g h = (g.0, near_both ms ns cs ds g.1 h)
-
-pub near_more : (n m k : ℕ) → IsNear n m → IsNear (n + k) (m + k)
-near_more n m k (inl e) = inl (ap (λ z. z + k) e)
-near_more n m k (inr e) = inr (omega (arith, e))
-
--- the same numbers first, then one that is near
-pub near_end : (ms ns : List ℕ) (n m : ℕ) → ms ≡ ns → IsNear n m → AllNear (ms ++ (n ∷ [])) (ns ++ (m ∷ []))
-near_end ms ns n m e h = near_both ms ns (n ∷ []) (m ∷ []) (near_same ms ns e) (h, tt)
+use Rattle.vx_moved_plans.specs.Moved.{Moving, moved_items, moved_pairs, moved_place, moved_faults, GoesAlong, AllGoAlong, EofGoes, IsMoved}
 
 -- ---- what is moved
 
@@ -85,12 +62,12 @@ module _ (f : Moving) where
   at_zero e d g = λ x. ap (λ z. f (z ++ x)) (sym (raised-zero e)) ∙ g.along 0 x ∙ ap (λ z. z ++ x) (raised-zero d)
 
   pub goes_inside : (e d : Eof) → EofGoes f e d → EofGoes f (inside e) (inside d)
-  goes_inside e d g = record { along = λ j. go_under (eof_path e) (eof_path d) (0 + j) (at_zero e d g); near = inl refl }
+  goes_inside e d g = record { along = λ j. go_under (eof_path e) (eof_path d) (0 + j) (at_zero e d g); same = refl }
 
   pub goes_next : (e d : Eof) → EofGoes f e d → EofGoes f (next e) (next d)
   goes_next e d g = record {
     along = λ j x. ap (λ z. f (z ++ x)) (raised-next e j) ∙ g.along (j + 1) x ∙ ap (λ z. z ++ x) (sym (raised-next d j));
-    near = near_more e.last d.last 1 g.near;
+    same = ap (λ z. z + 1) g.same;
   }
 
   -- ---- several plans
@@ -119,11 +96,11 @@ module _ (f : Moving) where
   layouts_moved (p ∷ ps) [] h = absurd h
   layouts_moved (p ∷ ps) (q ∷ qs) h = ap₂ (λ (a : LayoutData (List ℕ)) (b : List (LayoutData (List ℕ))). a ∷ b) h.0.layout (layouts_moved ps qs h.1)
 
-  pub numbers_moved : (ps qs : List Plan) → AllMoved ps qs → AllNear (all_numbers ps) (all_numbers qs)
-  numbers_moved [] [] h = tt
+  pub numbers_moved : (ps qs : List Plan) → AllMoved ps qs → all_numbers qs ≡ all_numbers ps
+  numbers_moved [] [] h = refl
   numbers_moved [] (q ∷ qs) h = absurd h
   numbers_moved (p ∷ ps) [] h = absurd h
-  numbers_moved (p ∷ ps) (q ∷ qs) h = near_both p.numbers q.numbers (all_numbers ps) (all_numbers qs) h.0.numbers (numbers_moved ps qs h.1)
+  numbers_moved (p ∷ ps) (q ∷ qs) h = ap₂ (λ (a b : List ℕ). a ++ b) h.0.numbers (numbers_moved ps qs h.1)
 
   pub reserved_moved : (ps qs : List Plan) → AllMoved ps qs → all_reserved qs ≡ all_reserved ps
   reserved_moved [] [] h = refl
@@ -142,29 +119,29 @@ module _ (f : Moving) where
 
   -- ---- plans that are made of others
 
-  pub whole_moved : (t : Ty) (n k : ℕ) (ms ns : List ℕ) (ps qs : List Plan) → n ≡ k → AllNear ms ns → AllMoved ps qs → IsMoved f (whole t n ms ps) (whole t k ns qs)
+  pub whole_moved : (t : Ty) (n k : ℕ) (ms ns : List ℕ) (ps qs : List Plan) → n ≡ k → ns ≡ ms → AllMoved ps qs → IsMoved f (whole t n ms ps) (whole t k ns qs)
   whole_moved t n k ms ns ps qs e h g = record {
     pairs = pairs_moved ps qs g;
     faults = faults_moved ps qs g;
     layout = ap₂ (λ (a : ℕ) (b : List (LayoutData (List ℕ))). gathered t a b) (sym e) (layouts_moved ps qs g) ∙ gathered_moved t n (all_layouts ps);
-    numbers = near_both ms ns (all_numbers ps) (all_numbers qs) h (numbers_moved ps qs g);
+    numbers = ap₂ (λ (a b : List ℕ). a ++ b) h (numbers_moved ps qs g);
     reserved = reserved_moved ps qs g;
   }
 
-  pub both_moved : (l k : LayoutData (List ℕ)) (ms ns : List ℕ) (p q x y : Plan) → k ≡ renamed f l → AllNear ms ns → IsMoved f p x → IsMoved f q y → IsMoved f (both_plans l ms p q) (both_plans k ns x y)
+  pub both_moved : (l k : LayoutData (List ℕ)) (ms ns : List ℕ) (p q x y : Plan) → k ≡ renamed f l → ns ≡ ms → IsMoved f p x → IsMoved f q y → IsMoved f (both_plans l ms p q) (both_plans k ns x y)
   both_moved l k ms ns p q x y e h g i = record {
     pairs = ap₂ (λ (a b : List Pair). a ++ b) g.pairs i.pairs ∙ sym (pairs_append p.pairs q.pairs);
     faults = ap₂ (λ (a b : List Fault). a ++ b) g.faults i.faults ∙ sym (faults_append p.faults q.faults);
     layout = e;
-    numbers = near_both ms ns (p.numbers ++ q.numbers) (x.numbers ++ y.numbers) h (near_both p.numbers x.numbers q.numbers y.numbers g.numbers i.numbers);
+    numbers = ap₂ (λ (a b : List ℕ). a ++ b) h (ap₂ (λ (a b : List ℕ). a ++ b) g.numbers i.numbers);
     reserved = ap₂ (λ (a b : ℕ). a + b) g.reserved i.reserved;
   }
 
-  pub with_moved : (ms ns : List ℕ) (r u : ℕ) (p q : Plan) → AllNear ms ns → u ≡ r → IsMoved f p q → IsMoved f (with_numbers ms r p) (with_numbers ns u q)
+  pub with_moved : (ms ns : List ℕ) (r u : ℕ) (p q : Plan) → ns ≡ ms → u ≡ r → IsMoved f p q → IsMoved f (with_numbers ms r p) (with_numbers ns u q)
   with_moved ms ns r u p q h e g = record {
     pairs = g.pairs;
     faults = g.faults;
     layout = g.layout;
-    numbers = near_both ms ns p.numbers q.numbers h g.numbers;
+    numbers = ap₂ (λ (a b : List ℕ). a ++ b) h g.numbers;
     reserved = ap₂ (λ (a b : ℕ). a + b) e g.reserved;
   }

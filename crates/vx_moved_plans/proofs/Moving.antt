@@ -1,14 +1,13 @@
 -- Every plan moves, and a column's into its struct.
-use Rattle.std.proofs.Common.{◌≡◌, ℕ, suc, ◌+◌, false, List, [], ◌∷◌, refl, sym, ap, ◌∙◌, subst, inr, arith}
+use Rattle.std.proofs.Common.{◌≡◌, ℕ, suc, ◌+◌, false, List, [], ◌∷◌, refl, sym, ap, subst, arith}
 use Rattle.std.proofs.lemmas.Bool.{true≢false}
 use Rattle.vx_model.specs.Ty.{Ty, Tys, no_fields, field}
 use Rattle.vx_model.specs.ChunkData.{ChunkData}
-use Rattle.vx_path.specs.Path.{inside, root_eof}
 use Rattle.vx_strategy_spec.specs.StrategyData.{StrategyData}
 use Rattle.vx_plan.specs.PlanData.{Setting, Item, Node}
 use Rattle.vx_plan.specs.SourcePlan.{plan, batch_items}
 use Rattle.vx_plan.proofs.Relate.{Fields, induct}
-use Rattle.vx_moved_plans.specs.Moved.{Moving, moved_items, AllGoAlong, EofGoes, IsMoved, into_column, column_items}
+use Rattle.vx_moved_plans.specs.Moved.{Moving, moved_items, AllGoAlong, EofGoes, IsMoved, into_column, column_eof, column_items}
 use Rattle.vx_moved_plans.specs.Statements.{PlansMove, ColumnsMove}
 use Rattle.vx_moved_plans.proofs.Nodes.{Moves, NodesMove, flat_moves, chunked_moves, grouped_moves, compressed_moves, dict_moves, zoned_moves, not_struct_moves, struct_moves, list_moves}
 
@@ -44,16 +43,14 @@ batches_moved : (c i : ℕ) (bs : List ChunkData) → moved_items (into_column c
 batches_moved c i [] = refl
 batches_moved c i (b ∷ bs) = ap (λ (z : List Item). (0 ∷ i ∷ c ∷ [], b) ∷ z) (batches_moved c (suc i) bs)
 
-root_goes : (c : ℕ) → EofGoes (into_column c) root_eof (inside (record { stem = []; last = 1 + c }))
-root_goes c = record {
-  along = λ j x.
-      let first : 1 + j ≡ suc j = omega arith in
-      let second : j ≡ 0 + j = omega arith in
-      ap (λ n. into_column c (n ∷ x)) first ∙ ap (λ n. (1 + c) ∷ n ∷ x) second;
-  near = inr (omega arith);
+eof_goes : (c : ℕ) → EofGoes (into_column c) (column_eof c) (column_eof c)
+eof_goes c = record {
+  along = λ j x. let first : 1 + c ≡ suc c = omega arith in
+      subst (λ n. into_column c (n ∷ (0 + j) ∷ x) ≡ n ∷ (0 + j) ∷ x) (sym first) refl;
+  same = refl;
 }
 
 pub columns_move : ColumnsMove
 columns_move s w t m c bs ended =
-    subst (λ z. IsMoved (into_column c) (plan s w t m (batch_items 0 bs) ended root_eof) (plan s w t m z ended (inside (record { stem = []; last = 1 + c })))) (batches_moved c 0 bs)
-    (plan_moves (into_column c) s w t m (batch_items 0 bs) ended root_eof (inside (record { stem = []; last = 1 + c })) (batches_along c 0 bs) (root_goes c))
+    subst (λ z. IsMoved (into_column c) (plan s w t m (batch_items 0 bs) ended (column_eof c)) (plan s w t m z ended (column_eof c))) (batches_moved c 0 bs)
+    (plan_moves (into_column c) s w t m (batch_items 0 bs) ended (column_eof c) (column_eof c) (batches_along c 0 bs) (eof_goes c))

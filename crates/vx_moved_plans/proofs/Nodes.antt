@@ -1,5 +1,5 @@
 -- Each kind of node writes of a moved stream what it writes, moved, where its children do.
-use Rattle.std.proofs.Common.{◌≡◌, ℕ, suc, ◌+◌, ◌*◌, ◌||◌, Bool, true, false, List, [], ◌∷◌, ◌++◌, map, length, Option, Some, None, refl, sym, ap, ap₂, ◌∙◌, subst, inl}
+use Rattle.std.proofs.Common.{◌≡◌, ℕ, suc, ◌+◌, ◌*◌, ◌||◌, Bool, true, false, List, [], ◌∷◌, ◌++◌, map, length, Option, Some, None, refl, sym, ap, ap₂, ◌∙◌, subst}
 use Rattle.std.specs.Prelude.{if◌then◌else◌, nat_lt}
 use Rattle.vx_model.specs.Ty.{Ty, Tys, list, struct}
 use Rattle.vx_model.specs.ChunkData.{cells, row_values}
@@ -12,16 +12,16 @@ use Rattle.vx_aggregate_spec.specs.Aggregate.{Column as Recorded}
 use Rattle.vx_zone_spec.specs.Record.{zone_record}
 use Rattle.vx_zone_spec.specs.ZoneTable.{Filled, kept_columns, table_type, table_specs, table_piece}
 use Rattle.vx_strategy_spec.specs.StrategyData.{Grouping, FlatOptions, ZonedOptions}
-use Rattle.vx_plan.specs.PlanData.{Setting, Item, Plan, Node, Fault, fault, What, at_start, at_chunk, many_chunks, empty_list, at_end, not_struct, duplicate_field, rows_in, row_total, row_totals, totals}
-use Rattle.vx_plan.specs.FlatNode.{segment, pair_at, refused_at, length_of, refusals, flat_node}
-use Rattle.vx_plan.specs.ChunkedNode.{all_layouts, all_numbers, chunk_plans, chunked_numbers, chunked_node}
+use Rattle.vx_plan.specs.PlanData.{Setting, Item, Plan, Node, Fault, fault, What, at_start, at_chunk, many_chunks, empty_list, at_end, not_struct, duplicate_field, rows_in, row_total, row_totals}
+use Rattle.vx_plan.specs.FlatNode.{segment, pair_at, refused_at, refusals, flat_node}
+use Rattle.vx_plan.specs.ChunkedNode.{all_layouts, chunk_plans, chunked_numbers, chunked_node}
 use Rattle.vx_plan.specs.GroupNode.{grouped_stream, group_numbers, group_reserved, grouped_node, images, compressed_node}
-use Rattle.vx_plan.specs.DictNode.{is_dictionary, run_plan, run_plans, made_counts, dict_numbers, runs_node, dict_node}
+use Rattle.vx_plan.specs.DictNode.{is_dictionary, run_plan, run_plans, dict_numbers, runs_node, dict_node}
 use Rattle.vx_plan.specs.ZonedNode.{recorded, allows, forbidden_faults, is_no_zone, cut_fault, cut_faults, zone_faults, zone_records, with_faults, table_items, data_numbers, zone_numbers, with_table, table_of, zoned_node}
 use Rattle.vx_plan.specs.ColumnNodes.{marked, column_plans, beside, refused_node, not_struct_node, struct_writers, column_numbers, struct_plans, struct_node, list_writers, elements_in, list_numbers, list_plans, list_columns_plan, no_lists_plan, list_node}
 use Rattle.vx_plan.specs.ColumnNodes as nodes
-use Rattle.vx_moved_plans.specs.Moved.{Moving, moved_items, moved_pairs, moved_faults, AllGoAlong, IsNear, AllNear, EofGoes, IsMoved}
-use Rattle.vx_moved_plans.proofs.Lists.{near_self, near_same, near_both, near_more, near_end, faults_append, totals_moved, summed_moved, length_moved, go_under, settled, goes_inside, goes_next, AllMoved, pairs_moved, faults_moved, layouts_moved, numbers_moved, reserved_moved, lays_moved, whole_moved, both_moved, with_moved}
+use Rattle.vx_moved_plans.specs.Moved.{Moving, moved_items, moved_pairs, moved_faults, AllGoAlong, EofGoes, IsMoved}
+use Rattle.vx_moved_plans.proofs.Lists.{faults_append, totals_moved, summed_moved, length_moved, go_under, settled, goes_inside, goes_next, AllMoved, pairs_moved, faults_moved, layouts_moved, numbers_moved, reserved_moved, lays_moved, whole_moved, both_moved, with_moved}
 use Rattle.vx_moved_plans.proofs.Streams.{grouped_moved, grouped_along, group_moved, group_reserves, images_moved, images_along, moved_splits, SplitsGo, structs_moved, structs_go, lists_moved, lists_go, column_moved, column_along, others_moved, others_go}
 use Rattle.vx_moved_plans.proofs.Runs.{moved_run, moved_runs, RunsGo, runs_moved, runs_go, runs_length, made_moved}
 
@@ -41,19 +41,19 @@ module _ (f : Moving) where
   refused_moves p (Some id) = refl
 
   pub flat_moves : (s : Setting) (o : FlatOptions) (t : Ty) → Moves (flat_node s o t)
-  flat_moves s o t m [] ended e d g h = record { pairs = refl; faults = refl; layout = refl; numbers = tt; reserved = refl }
+  flat_moves s o t m [] ended e d g h = record { pairs = refl; faults = refl; layout = refl; numbers = refl; reserved = refl }
   flat_moves s o t m (i ∷ []) true e d g h = record {
     pairs = pair_moves i.0 (segment s o i);
     faults = refused_moves i.0 (s.codec.refused s.encodings i.1);
     layout = refl;
-    numbers = near_self (length (cells i.1) ∷ length_of (segment s o i));
+    numbers = refl;
     reserved = refl;
   }
   flat_moves s o t m (i ∷ []) false e d g h = record {
     pairs = refl;
     faults = refused_moves i.0 (s.codec.refused s.encodings i.1);
     layout = refl;
-    numbers = near_self (length (cells i.1) ∷ length_of (segment s o i));
+    numbers = refl;
     reserved = refl;
   }
   flat_moves s o t m (i ∷ j ∷ is) ended e d g h = record {
@@ -61,7 +61,7 @@ module _ (f : Moving) where
     faults = ap (λ (z : List Fault). z ++ (fault many_chunks (at_chunk (f j.0)) ∷ [])) (refused_moves i.0 (s.codec.refused s.encodings i.1))
         ∙ sym (faults_append f (refusals s i) (fault many_chunks (at_chunk j.0) ∷ []));
     layout = refl;
-    numbers = near_self (length (cells i.1) ∷ length_of (segment s o i));
+    numbers = refl;
     reserved = refl;
   }
 
@@ -73,15 +73,14 @@ module _ (f : Moving) where
   chunks_move k r m (i ∷ is) e d g h =
       (r m (i ∷ []) true (inside e) (inside d) (g.0, tt) (goes_inside f e d h), chunks_move k r m is (next e) (next d) g.1 (goes_next f e d h))
 
-  near_count : (e d : Eof) (n k : ℕ) → EofGoes f e d → k ≡ n → IsNear (e.last + n) (d.last + k)
-  near_count e d n k h same = subst (λ z. IsNear (e.last + n) (d.last + z)) (sym same) (near_more e.last d.last n h.near)
+  same_count : (e d : Eof) (n k : ℕ) → EofGoes f e d → k ≡ n → d.last + k ≡ e.last + n
+  same_count e d n k h same = ap₂ (λ (a b : ℕ). a + b) (sym h.same) same
 
   pub chunked_moves : (t : Ty) (k : Node) → Moves k → Moves (chunked_node t k)
   chunked_moves t k r m items ended e d g h =
       whole_moved f t (row_total items) (row_total (moved_items f items)) (chunked_numbers items e) (chunked_numbers (moved_items f items) d)
       (chunk_plans k m items e) (chunk_plans k m (moved_items f items) d) (sym (summed_moved f rows_in items))
-      (near_end (row_totals items) (row_totals (moved_items f items)) (e.last + length items) (d.last + length (moved_items f items)) (sym (totals_moved f rows_in 0 items))
-      (near_count e d (length items) (length (moved_items f items)) h (length_moved f items)))
+      (ap₂ (λ (a : List ℕ) (k : ℕ). a ++ (k ∷ [])) (totals_moved f rows_in 0 items) (same_count e d (length items) (length (moved_items f items)) h (length_moved f items)))
       (chunks_move k r m items e d g h)
 
   -- ---- regrouping and compressing
@@ -91,8 +90,7 @@ module _ (f : Moving) where
       with_moved f (row_totals items ++ group_numbers q t items ended) (row_totals (moved_items f items) ++ group_numbers q t (moved_items f items) ended)
       (group_reserved q items) (group_reserved q (moved_items f items))
       (k m (grouped_stream q t items ended) ended e) (k m (grouped_stream q t (moved_items f items) ended) ended d)
-      (near_same (row_totals items ++ group_numbers q t items ended) (row_totals (moved_items f items) ++ group_numbers q t (moved_items f items) ended)
-      (sym (ap₂ (λ (a b : List ℕ). a ++ b) (totals_moved f rows_in 0 items) (group_moved f q t items ended))))
+      (ap₂ (λ (a b : List ℕ). a ++ b) (totals_moved f rows_in 0 items) (group_moved f q t items ended))
       (group_reserves f q items)
       (subst (λ z. IsMoved f (k m (grouped_stream q t items ended) ended e) (k m z ended d)) (sym (grouped_moved f q t items ended g))
       (r m (grouped_stream q t items ended) ended e d (grouped_along f q t items ended g) h))
@@ -128,12 +126,8 @@ module _ (f : Moving) where
       let count : length (runs o t (moved_items f items) ended) ≡ length (runs o t items ended) = ap (λ (z : List Run). length z) (runs_moved f o t items ended g) ∙ runs_length f (runs o t items ended) in
       whole_moved f t (row_total items) (row_total (moved_items f items)) (dict_numbers o t items ended e) (dict_numbers o t (moved_items f items) ended d)
       (run_plans t ck vk m (runs o t items ended) e) (run_plans t ck vk m (runs o t (moved_items f items) ended) d) (sym (summed_moved f rows_in items))
-      (near_both (row_totals items) (row_totals (moved_items f items)) ((e.last + 2 * length (runs o t items ended)) ∷ made_counts o t [] items ended)
-      ((d.last + 2 * length (runs o t (moved_items f items) ended)) ∷ made_counts o t [] (moved_items f items) ended)
-      (near_same (row_totals items) (row_totals (moved_items f items)) (sym (totals_moved f rows_in 0 items))) (
-        near_count e d (2 * length (runs o t items ended)) (2 * length (runs o t (moved_items f items) ended)) h (ap (λ n. 2 * n) count),
-        near_same (made_counts o t [] items ended) (made_counts o t [] (moved_items f items) ended) (sym (made_moved f o t [] items ended)),
-      ))
+      (ap₂ (λ (a b : List ℕ). a ++ b) (totals_moved f rows_in 0 items)
+      (ap₂ (λ (a : ℕ) (b : List ℕ). a ∷ b) (same_count e d (2 * length (runs o t items ended)) (2 * length (runs o t (moved_items f items) ended)) h (ap (λ n. 2 * n) count)) (made_moved f o t [] items ended)))
       (subst (λ z. AllMoved f (run_plans t ck vk m (runs o t items ended) e) (run_plans t ck vk m z d)) (sym (runs_moved f o t items ended g))
       (runs_move t ck vk rc rv m (runs o t items ended) e d (runs_go f o t items ended g) h))
 
@@ -143,7 +137,7 @@ module _ (f : Moving) where
 
   pub dict_moves : (s : Setting) (o : DictOptions) (t : Ty) (ck vk k : Node) → Moves ck → Moves vk → Moves k → Moves (dict_node s o t ck vk k)
   dict_moves s o t ck vk k rc rv r m [] true e d g h = r m [] true e d g h
-  dict_moves s o t ck vk k rc rv r m [] false e d g h = record { pairs = refl; faults = refl; layout = refl; numbers = tt; reserved = refl }
+  dict_moves s o t ck vk k rc rv r m [] false e d g h = record { pairs = refl; faults = refl; layout = refl; numbers = refl; reserved = refl }
   dict_moves s o t ck vk k rc rv r m (i ∷ is) ended e d g h =
       by_image (is_dictionary (s.image o.probe i.1)) (runs_node o t ck vk m (i ∷ is) ended e) (k m (i ∷ is) ended e)
       (runs_node o t ck vk m (moved_items f (i ∷ is)) ended d) (k m (moved_items f (i ∷ is)) ended d)
@@ -165,12 +159,12 @@ module _ (f : Moving) where
         (columns_move ks r.1 (suc c) (other_columns xs) ended (next e) (next d) (others_go f xs g) (goes_next f e d h)),
   )
 
-  beside_moves : (l k : LayoutData (List ℕ)) (ms ns : List ℕ) (ps qs : List Plan) → k ≡ renamed f l → AllNear ms ns → AllMoved f ps qs → IsMoved f (beside l ms ps) (beside k ns qs)
+  beside_moves : (l k : LayoutData (List ℕ)) (ms ns : List ℕ) (ps qs : List Plan) → k ≡ renamed f l → ns ≡ ms → AllMoved f ps qs → IsMoved f (beside l ms ps) (beside k ns qs)
   beside_moves l k ms ns ps qs e h g = record {
     pairs = pairs_moved f ps qs g;
     faults = faults_moved f ps qs g;
     layout = e;
-    numbers = near_both ms ns (all_numbers ps) (all_numbers qs) h (numbers_moved f ps qs g);
+    numbers = ap₂ (λ (a b : List ℕ). a ++ b) h (numbers_moved f ps qs g);
     reserved = reserved_moved f ps qs g;
   }
 
@@ -181,16 +175,14 @@ module _ (f : Moving) where
   list_renamed : (t : Ty) (n k : ℕ) (ls ks : List (LayoutData (List ℕ))) → n ≡ k → ks ≡ map (renamed f) ls → list_layout t k ks ≡ renamed f (list_layout t n ls)
   list_renamed t n k ls ks e h = ap₂ (λ (a : ℕ) (b : List (LayoutData (List ℕ))). list_layout t a b) (sym e) h ∙ ap (λ z. layout list_kind t n [] z) (lays_moved f ls)
 
-  column_near : (items : List Item) (ks : List nodes.Column) (e d : Eof) → EofGoes f e d → AllNear (column_numbers items ks e) (column_numbers (moved_items f items) ks d)
-  column_near items ks e d h =
-      near_both (row_totals items) (row_totals (moved_items f items)) (length ks ∷ (e.last + length ks) ∷ []) (length ks ∷ (d.last + length ks) ∷ [])
-      (near_same (row_totals items) (row_totals (moved_items f items)) (sym (totals_moved f rows_in 0 items)))
-      (inl refl, (near_more e.last d.last (length ks) h.near, tt))
+  column_same : (items : List Item) (ks : List nodes.Column) (e d : Eof) → EofGoes f e d → column_numbers (moved_items f items) ks d ≡ column_numbers items ks e
+  column_same items ks e d h =
+      ap₂ (λ (a : List ℕ) (k : ℕ). a ++ (length ks ∷ k ∷ [])) (totals_moved f rows_in 0 items) (same_count e d (length ks) (length ks) h refl)
 
   -- ---- structs
 
   refused_moves_too : (l k : LayoutData (List ℕ)) (w : What) → k ≡ renamed f l → IsMoved f (refused_node l w at_start) (refused_node k w at_start)
-  refused_moves_too l k w e = record { pairs = refl; faults = refl; layout = e; numbers = tt; reserved = refl }
+  refused_moves_too l k w e = record { pairs = refl; faults = refl; layout = e; numbers = refl; reserved = refl }
 
   pub not_struct_moves : (t : Ty) → Moves (not_struct_node t)
   not_struct_moves t m items ended e d g h = refused_moves_too (struct_layout t 0 []) (struct_layout t 0 []) not_struct refl
@@ -219,7 +211,7 @@ module _ (f : Moving) where
       (struct_plans fs n v ks m items ended e) (struct_plans fs n v ks m (moved_items f items) ended d)
       (struct_renamed (struct fs n) (row_total items) (row_total (moved_items f items)) (all_layouts (struct_plans fs n v ks m items ended e)) (all_layouts (struct_plans fs n v ks m (moved_items f items) ended d))
       (sym (summed_moved f rows_in items)) (layouts_moved f (struct_plans fs n v ks m items ended e) (struct_plans fs n v ks m (moved_items f items) ended d) all))
-      (column_near items (struct_writers n m v ks) e d h) all
+      (column_same items (struct_writers n m v ks) e d h) all
 
   -- ---- lists
 
@@ -240,11 +232,8 @@ module _ (f : Moving) where
       (list_plans t n es os v m items ended e) (list_plans t n es os v m (moved_items f items) ended d)
       (list_renamed (list t n) (row_total items) (row_total (moved_items f items)) (all_layouts (list_plans t n es os v m items ended e)) (all_layouts (list_plans t n es os v m (moved_items f items) ended d))
       (sym (summed_moved f rows_in items)) (layouts_moved f (list_plans t n es os v m items ended e) (list_plans t n es os v m (moved_items f items) ended d) all))
-      (near_both (totals rows_in 1 items) (totals rows_in 1 (moved_items f items)) (totals elements_in 0 items ++ column_numbers items ks e)
-      (totals elements_in 0 (moved_items f items) ++ column_numbers (moved_items f items) ks d)
-      (near_same (totals rows_in 1 items) (totals rows_in 1 (moved_items f items)) (sym (totals_moved f rows_in 1 items)))
-      (near_both (totals elements_in 0 items) (totals elements_in 0 (moved_items f items)) (column_numbers items ks e) (column_numbers (moved_items f items) ks d)
-      (near_same (totals elements_in 0 items) (totals elements_in 0 (moved_items f items)) (sym (totals_moved f elements_in 0 items))) (column_near items ks e d h)))
+      (ap₂ (λ (a b : List ℕ). a ++ b) (totals_moved f rows_in 1 items)
+      (ap₂ (λ (a b : List ℕ). a ++ b) (totals_moved f elements_in 0 items) (column_same items ks e d h)))
       all
 
   no_lists_move : (t : Ty) (n : Bool) (es os v : Node) → Moves es → Moves os → Moves v → (m : Bool) (e d : Eof) → EofGoes f e d
@@ -294,18 +283,16 @@ module _ (f : Moving) where
   table_along : (cs : List Filled) (zones : ℕ) (e d : Eof) → EofGoes f e d → AllGoAlong f (table_items cs zones e)
   table_along cs zones e d h = (settled f (under (raised e 1) 0) (under (raised d 1) 0) (go_under f (raised e 1) (raised d 1) 0 (h.along 1)), tt)
 
-  data_near : (items : List Item) (e d : Eof) → EofGoes f e d → AllNear (data_numbers items e) (data_numbers (moved_items f items) d)
-  data_near items e d h = near_end (row_totals items) (row_totals (moved_items f items)) (e.last + 1) (d.last + 1) (sym (totals_moved f rows_in 0 items)) (near_more e.last d.last 1 h.near)
+  data_same : (items : List Item) (e d : Eof) → EofGoes f e d → data_numbers (moved_items f items) d ≡ data_numbers items e
+  data_same items e d h = ap₂ (λ (a : List ℕ) (k : ℕ). a ++ (k ∷ [])) (totals_moved f rows_in 0 items) (same_count e d 1 1 h refl)
 
-  zone_near : (items : List Item) (e d : Eof) → EofGoes f e d → AllNear (zone_numbers items e) (zone_numbers (moved_items f items) d)
-  zone_near items e d h =
-      near_both (row_totals items) (row_totals (moved_items f items)) (length items ∷ (e.last + 2) ∷ []) (length (moved_items f items) ∷ (d.last + 2) ∷ [])
-      (near_same (row_totals items) (row_totals (moved_items f items)) (sym (totals_moved f rows_in 0 items)))
-      (inl (sym (length_moved f items)), (near_more e.last d.last 2 h.near, tt))
+  zones_same : (items : List Item) (e d : Eof) → EofGoes f e d → zone_numbers (moved_items f items) d ≡ zone_numbers items e
+  zones_same items e d h =
+      ap₂ (λ (a b : List ℕ). a ++ b) (totals_moved f rows_in 0 items) (ap₂ (λ (a b : ℕ). a ∷ b ∷ []) (length_moved f items) (same_count e d 2 2 h refl))
 
   with_table_moves : (s : Setting) (o : ZonedOptions) (t : Ty) (stats : Ty → Node) → ((u : Ty) → Moves (stats u)) → (m : Bool) (items : List Item) (e d : Eof) (p q : Plan) (cs : Option (List Filled)) → EofGoes f e d → IsMoved f p q
       → IsMoved f (with_table s o t stats m items e p cs) (with_table s o t stats m (moved_items f items) d q cs)
-  with_table_moves s o t stats r m items e d p q None h g = with_moved f (data_numbers items e) (data_numbers (moved_items f items) d) 0 0 p q (data_near items e d h) refl g
+  with_table_moves s o t stats r m items e d p q None h g = with_moved f (data_numbers items e) (data_numbers (moved_items f items) d) 0 0 p q (data_same items e d h) refl g
   with_table_moves s o t stats r m items e d p q (Some cs) h g =
       let a : Plan = stats (table_type cs) m (table_items cs (length items) e) true (next (next e)) in
       let b : Plan = stats (table_type cs) m (table_items cs (length (moved_items f items)) d) true (next (next d)) in
@@ -315,7 +302,7 @@ module _ (f : Moving) where
       (zone_numbers items e) (zone_numbers (moved_items f items) d) p a q b
       (ap (λ n. zoned_layout t n o.zone_len (table_specs cs) q.layout b.layout) (summed_moved f rows_in items)
       ∙ ap₂ (λ (x y : LayoutData (List ℕ)). zoned_layout t (row_total items) o.zone_len (table_specs cs) x y) g.layout i.layout)
-      (zone_near items e d h) g i
+      (zones_same items e d h) g i
 
   with_faults_moves : (xs ys : List Fault) (p q : Plan) → ys ≡ moved_faults f xs → IsMoved f p q → IsMoved f (with_faults xs p) (with_faults ys q)
   with_faults_moves xs ys p q e g = record {

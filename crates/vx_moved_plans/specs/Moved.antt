@@ -1,7 +1,7 @@
 -- Plans at other paths: what is written at a path is written where that is moved.
-use Rattle.std.specs.Prelude.{◌≡◌, ◌⊎◌, ℕ, zero, suc, ◌+◌, List, [], ◌∷◌, ◌++◌}
+use Rattle.std.specs.Prelude.{◌≡◌, ℕ, zero, suc, ◌+◌, List, [], ◌∷◌, ◌++◌}
 use Rattle.vx_model.specs.ChunkData.{ChunkData}
-use Rattle.vx_path.specs.Path.{Eof, raised}
+use Rattle.vx_path.specs.Path.{Eof, raised, inside}
 use Rattle.vx_layout_spec.specs.LayoutTree.{renamed}
 use Rattle.vx_plan.specs.PlanData.{Pair, Item, Plan, Fault, fault, Place, at_start, at_chunk, at_end}
 
@@ -38,37 +38,32 @@ abbrev pub AllGoAlong : Moving → List Item → Type 0
 AllGoAlong f [] = Unit {0}
 AllGoAlong f (i ∷ is) = GoesAlong f i.0 (f i.0) × AllGoAlong f is
 
--- a number is the other one, or one more
-abbrev pub IsNear : ℕ → ℕ → Type 0
-IsNear n m = (n ≡ m) ⊎ (n ≡ m + 1)
-
-abbrev pub AllNear : List ℕ → List ℕ → Type 0
-AllNear [] [] = Unit {0}
-AllNear [] (m ∷ ms) = ⊥
-AllNear (n ∷ ns) [] = ⊥
-AllNear (n ∷ ns) (m ∷ ms) = IsNear n m × AllNear ns ms
-
--- each e + j is moved to d + j; their last indices may differ by one
+-- each e + j is moved to d + j, and their last indices are the same
 pub record EofGoes (f : Moving) (e d : Eof) : Type 0 where
   pub along : (j : ℕ) → GoesAlong f (raised e j) (raised d j)
-  pub near : IsNear e.last d.last
+  pub same : e.last ≡ d.last
 
--- The second plan is the first one, moved. What is counted is the same, but for indices that go on from the eof path's last one.
+-- The second plan is the first one, moved. What is counted is the same.
 pub record IsMoved (f : Moving) (p q : Plan) : Type 0 where
   pub pairs : q.pairs ≡ moved_pairs f p.pairs
   pub faults : q.faults ≡ moved_faults f p.faults
   pub layout : q.layout ≡ renamed f p.layout
-  pub numbers : AllNear p.numbers q.numbers
+  pub numbers : q.numbers ≡ p.numbers
   pub reserved : q.reserved ≡ p.reserved
 
 -- ---- into a column
 
--- where a struct's node writes what its column c by itself writes: [0, i] goes to [0, i, c], and [1 + k] to [1 + c, k]
+-- the eof path of column c, [1 + c, 0]
+abbrev pub column_eof : ℕ → Eof
+column_eof c = inside (record { stem = []; last = 1 + c })
+
+-- Where a struct's node writes what its column c writes by itself, from its own eof path on: [0, i] goes to [0, i, c], and what goes on
+-- from the eof path stays.
 abbrev pub into_column : ℕ → Moving
 into_column c [] = []
 into_column c (zero ∷ []) = 0 ∷ []
 into_column c (zero ∷ i ∷ p) = 0 ∷ i ∷ c ∷ p
-into_column c (suc k ∷ p) = (1 + c) ∷ k ∷ p
+into_column c (suc k ∷ p) = suc k ∷ p
 
 -- the column's chunks, chunk i at [0, i, c]
 abbrev pub column_items : ℕ → ℕ → List ChunkData → List Item
