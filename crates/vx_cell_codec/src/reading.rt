@@ -172,6 +172,7 @@ fn read_only(alloc: Global, dtype: &DType, bytes: &[u8]) -> Result<Cell, CellErr
 {
     let (cell, rest) = next_cell(alloc, dtype, bytes)?;
     if !rest.is_empty() {
+        drop(cell);
         return Err(CellError::NoCells);
     }
     Ok(cell)

@@ -88,15 +88,20 @@ impl Chunk {
         ensures memory { IfErr result (λ e. e ≡ ChunkError.OutOfMemory) }
     {
         elements.sound();
-        let elements = Box::new(alloc, elements)?;
-        Ok(Chunk {
-            node: Node::List {
-                dtype,
-                elements,
-                offsets,
-                valid,
-            },
-        })
+        match Box::new(alloc, elements) {
+            Ok(elements) => Ok(Chunk {
+                node: Node::List {
+                    dtype,
+                    elements,
+                    offsets,
+                    valid,
+                },
+            }),
+            Err(failed) => {
+                drop((failed, dtype));
+                Err(ChunkError::OutOfMemory)
+            }
+        }
     }
 
     /// Row i has cell i of each field; takes no memory. `conditions::makes_struct` tests the condition.
@@ -122,9 +127,14 @@ impl Chunk {
         ensures memory { IfErr result (λ e. e ≡ ChunkError.OutOfMemory) }
     {
         storage.sound();
-        let storage = Box::new(alloc, storage)?;
-        Ok(Chunk {
-            node: Node::Extension { dtype, storage },
-        })
+        match Box::new(alloc, storage) {
+            Ok(storage) => Ok(Chunk {
+                node: Node::Extension { dtype, storage },
+            }),
+            Err(failed) => {
+                drop((failed, dtype));
+                Err(ChunkError::OutOfMemory)
+            }
+        }
     }
 }

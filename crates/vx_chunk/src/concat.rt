@@ -22,7 +22,10 @@ impl Chunk {
         ensures refused { IfErr result (IsTooLarge (length (joined_cells (pieces_of parts.items)))) }
     {
         all_sound(&parts);
-        let flat = flatten(alloc, parts)?;
+        let Ok(flat) = flatten(alloc, parts) else {
+            drop(dtype);
+            return Err(ChunkError::OutOfMemory);
+        };
         Chunk::chunked(dtype, flat)
     }
 }

@@ -155,7 +155,12 @@ fn push_values(
 {
     match &codes.node {
         Node::Plain { cells, .. } => push_picked(values, &cells[from as usize..to as usize], out),
-        Node::Constant { cell, .. } => push_copies(&pick(values, cell)?, to - from, out),
+        Node::Constant { cell, .. } => {
+            let value = pick(values, cell)?;
+            let pushed = push_copies(&value, to - from, out);
+            drop(value);
+            pushed
+        }
         Node::Dict { .. } | Node::Chunked { .. } | Node::List { .. } => unreachable!(),
         Node::Struct { .. } | Node::Extension { .. } => unreachable!(),
     }

@@ -41,9 +41,12 @@ fn read_typed(alloc: Global, members: &Map<String, Value>) -> Result<Chunk, Json
     };
     let dtype = read_type(alloc, dtype)?;
     let Some(chunk) = member(members, "chunk") else {
+        drop(dtype);
         return Err(JsonError::Wrong);
     };
-    read_chunk(alloc, &dtype, chunk)
+    let chunk = read_chunk(alloc, &dtype, chunk);
+    drop(dtype);
+    chunk
 }
 
 /// The batches that the values say, in order.

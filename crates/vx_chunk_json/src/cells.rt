@@ -50,7 +50,11 @@ fn read_whole(ptype: PType, number: &Number) -> Result<Cell, JsonError>
         return Err(JsonError::Wrong);
     };
     let cell = Cell::Int(n);
-    if !fits_one(&DType::Primitive(ptype, Nullability::NonNullable), &cell) {
+    let dtype = DType::Primitive(ptype, Nullability::NonNullable);
+    let fits = fits_one(&dtype, &cell);
+    drop(dtype);
+    if !fits {
+        drop(cell);
         return Err(JsonError::Wrong);
     }
     Ok(cell)

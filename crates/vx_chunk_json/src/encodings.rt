@@ -40,9 +40,16 @@ pub(crate) fn read_constant(
     };
     let cell = read_cell(alloc, dtype, value)?;
     let Some(rows) = number_at(members, "rows") else {
+        drop(cell);
         return Err(JsonError::Wrong);
     };
-    Ok(Chunk::constant(dtype.clone()?, cell, rows))
+    match dtype.clone() {
+        Ok(own) => Ok(Chunk::constant(own, cell, rows)),
+        Err(_) => {
+            drop(cell);
+            Err(JsonError::OutOfMemory)
+        }
+    }
 }
 
 /// The unsigned integer type of that name.
@@ -76,7 +83,9 @@ pub(crate) fn read_codes(alloc: Global, members: &Map<String, Value>) -> Result<
         return Err(JsonError::Wrong);
     };
     let dtype = DType::Primitive(ptype, Nullability::NonNullable);
-    read_plain(alloc, &dtype, values)
+    let codes = read_plain(alloc, &dtype, values);
+    drop(dtype);
+    codes
 }
 
 /// The chunk. Too many rows are a wrong value.

@@ -83,12 +83,31 @@ fn read_members(alloc: Global, members: &Map<String, Value>) -> Result<TreeJob, 
     ensures job { Gives tree_view result (tree_in (members_view members.now.entries)) }
     ensures shallow { IfOk result (λ j. j.options.limits.depth ≤ 1024) }
 {
-    Ok(TreeJob {
-        dtype: dtype_in(alloc, members)?,
-        bytes: bytes_in(alloc, members)?,
-        layouts: layouts_in(alloc, members)?,
-        options: read_tree_options(alloc, members)?,
-    })
+    let dtype = dtype_in(alloc, members)?;
+    match bytes_in(alloc, members) {
+        Ok(bytes) => match layouts_in(alloc, members) {
+            Ok(layouts) => match read_tree_options(alloc, members) {
+                Ok(options) => Ok(TreeJob {
+                    dtype,
+                    bytes,
+                    layouts,
+                    options,
+                }),
+                Err(error) => {
+                    drop((dtype, bytes, layouts));
+                    Err(error)
+                }
+            },
+            Err(error) => {
+                drop((dtype, bytes));
+                Err(error)
+            }
+        },
+        Err(error) => {
+            drop(dtype);
+            Err(error)
+        }
+    }
 }
 
 #[tactic(auto, using(crate::proofs::JobSteps::at_rules), unfolding(crate::specs::TreeText::dtype_in))]

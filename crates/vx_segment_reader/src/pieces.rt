@@ -46,7 +46,9 @@ fn read_codes<'a>(
     ensures { Gives (λ x. (x.0, left x.1)) result (simple_at (framed frame.now) (primitive ptype false) (left rest.entry)) }
 {
     let dtype = DType::Primitive(ptype, Nullability::NonNullable);
-    read_simple(frame, &dtype, rest)
+    let codes = read_simple(frame, &dtype, rest);
+    drop(dtype);
+    codes
 }
 
 #[tactic(auto, unfolding(vx_segment_spec::specs::Pieces::dict_at))]

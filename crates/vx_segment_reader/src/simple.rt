@@ -126,7 +126,10 @@ pub(crate) fn read_constant<'a>(
     }
     let (buffer, rest) = next_buffer(k, rest)?;
     let cell = cell_of(alloc, dtype, k, buffer)?;
-    let dtype = dtype.clone()?;
+    let Ok(dtype) = dtype.clone() else {
+        drop(cell);
+        return Err(DecodeError::OutOfMemory);
+    };
     Ok((Chunk::constant(dtype, cell, node.rows), rest))
 }
 
