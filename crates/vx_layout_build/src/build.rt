@@ -86,7 +86,9 @@ fn foreign_node(
     ensures { Gives layout_data result (foreign_built (scope_of scope.now.value).ids (seen_node node) (ty dtype.now)) }
 {
     let node = node.to_raw(alloc)?;
-    build_foreign(alloc, &scope.ids, dtype, &node)
+    let layout = build_foreign(alloc, &scope.ids, dtype, &node);
+    drop(node);
+    layout
 }
 
 /// The parts of a layout that is built of the node, and its metadata.

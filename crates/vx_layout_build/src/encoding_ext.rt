@@ -49,6 +49,8 @@ impl LayoutEncodingExt for LayoutEncoding {
             drop((parts, context));
             return Err(LayoutError::OutOfMemory);
         };
-        build_kind(alloc, *self, &context, parts, &metadata)
+        let layout = build_kind(alloc, *self, &context, parts, &metadata);
+        drop((context, metadata));
+        layout
     }
 }

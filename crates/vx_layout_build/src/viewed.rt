@@ -77,7 +77,9 @@ pub(crate) fn zoned_child<'a>(
         kept_child(kept, i)
     } else {
         let dtype = no_columns(zones.allocator());
-        chunk(zones, i - count, &dtype)
+        let child = chunk(zones, i - count, &dtype);
+        drop(dtype);
+        child
     }
 }
 
@@ -123,7 +125,9 @@ fn viewed_field<'a>(
     ensures { Gives child_lay result (answer_at (viewed_kids viewed.now) i (type_at (struct_types (ty dtype.now)) i)) }
 {
     let validity = DType::Bool(Nullability::NonNullable);
-    standing(viewed, i, struct_child_type(dtype, i, &validity))
+    let child = standing(viewed, i, struct_child_type(dtype, i, &validity));
+    drop(validity);
+    child
 }
 
 /// The type of a struct's child.
