@@ -9,6 +9,10 @@ ghost use Rattle.vx_machine.specs.Calls.{reads_in, appends_in, calls_in};
 ghost use Rattle.vx_machine.specs.Run.{at, RunDone, RunTold};
 ghost use Rattle.vx_machine.specs.View.{machine_of};
 ghost use Rattle.vx_sink.specs.ContextView.{counted};
+ghost use Rattle.vx_kept.specs.Kept.{Knows};
+ghost use Rattle.vx_kept.specs.Props.{knows_prop};
+ghost use Rattle.vx_machine_task.specs.View.{row};
+ghost use Rattle.vx_machine_task.specs.declared.task.Task.{out-Task};
 ghost use Rattle.vx_machine_node.specs.Ledger.{told_by};
 ghost use Rattle.vx_machine.specs.Whole.{machine_stock, machine_reserved, StepMay};
 
@@ -18,6 +22,14 @@ use vx_layout_tree::Layout;
 use vx_order::Order;
 use vx_sink::{BatchSource, CompressorPlugin, LayoutWriterContext};
 use vx_write_answer::{Step, WriteError};
+
+/// A machine between two steps, and what is kept of its tasks' counts. These are right, whatever the order holds, but for the
+/// tasks that are to be counted anew.
+struct Running {
+    machine: Machine,
+    counts: Counts,
+    ghost known: { Knows counts (row (out-Task machine.root).kids.items) } by { knows_prop counts (row (out-Task machine.root).kids.items) },
+}
 
 /// The pick of this place; past the schedule's end the first task.
 fn pick_at(schedule: &[u64], place: usize) -> u64
@@ -36,7 +48,7 @@ fn pick_at(schedule: &[u64], place: usize) -> u64
 /// other, each as the machine in plain data says. `None` comes where no task is ready, which the laws of tasks rule out for a
 /// machine that was started and stepped.
 pub fn run<B: BatchSource, O: Order, C: CompressorPlugin>(
-    mut machine: Machine,
+    machine: Machine,
     ctx: &mut LayoutWriterContext,
     source: &mut B,
     order: &mut O,
@@ -66,8 +78,13 @@ pub fn run<B: BatchSource, O: Order, C: CompressorPlugin>(
     ensures context { told_by ctx.new ≡ told_by ctx.old }
     ensures compressor { C.kind compressor.new ≡ C.kind compressor.old }
 {
-    let mut counts = Counts::new(machine.alloc);
+    let counts = Counts::new(machine.alloc);
+    let mut running = Running { machine, counts };
     'steps: loop {
+        let Running {
+            mut machine,
+            mut counts,
+        } = running;
         if machine.finished() {
             return Ok(Some(machine.finish()));
         }
@@ -85,7 +102,10 @@ pub fn run<B: BatchSource, O: Order, C: CompressorPlugin>(
         }
         let pick = pick_at(schedule, trace.len());
         match machine.step_counted(ready, pick, ctx, source, order, compressor, &mut counts) {
-            Ok(step) => trace.push_reserved(step),
+            Ok(step) => {
+                trace.push_reserved(step);
+                running = Running { machine, counts };
+            }
             Err(error) => {
                 machine.refuse(ctx, order);
                 return Err(error);

@@ -17,9 +17,7 @@ use Rattle.vx_machine_node.specs.Context.{setting_of}
 use Rattle.vx_machine_node.specs.Outcome.{Kept}
 use Rattle.vx_sink.specs.ContextView.{counted as counted_bytes}
 use Rattle.vx_machine.specs.Run.{at, Ran, picked_at, tracker_by}
-use Rattle.vx_machine_task.specs.View.{row}
 use Rattle.vx_machine.specs.View.{phase_of, machine_of}
-use Rattle.vx_machine_task.specs.declared.task.Task.{out-Task}
 use Rattle.vx_machine.specs.Whole.{machine_ready}
 use Rattle.vx_machine.proofs.HeldViews.{exact_then}
 use Rattle.vx_machine.proofs.RunCalls.{Answered, none_called, then_answered, reads_once, appends_once, calls_once, reads_more, appends_more, calls_more, ended, source_ends, sink_ends, press_ends, misfit_passed}
@@ -38,7 +36,6 @@ steps-init g c = record {
   pressed = λ e. subst (λ ts. Answered g.C.Fallible.faults g.C.Fallible.may_fail g.C.Fallible.must_fail c.args.compressor.now c.args.compressor.now (calls_in ts)) (sym e) (none_called g.C.Fallible.faults g.C.Fallible.may_fail g.C.Fallible.must_fail c.args.compressor.now);
   tracked = omega (arith, c.requires.unreserved);
   context = refl;
-  known = c.new-counts.ensures (row (out-Task c.args.machine.root).kids.items);
   compressor = refl;
   ran = λ e x.
       subst (λ ts. Ran c.args.ctx.now (g.C.CompressorPlugin.image (g.C.CompressorPlugin.kind c.args.compressor.now)) (g.B.BatchSource.kind c.args.source.now) c.args.schedule.now 0 (at (machine_of c.args.machine) (g.B.BatchSource.to_come c.args.source.now) (g.O.Order.outlet c.args.order.now)) ts
@@ -53,19 +50,19 @@ pub step_counted-requires-clause-ready : goal.step_counted-requires-clause-ready
 step_counted-requires-clause-ready g c = omega (arith, c.in-Ok.ensures.told, c.if-ready-eq0.false)
 
 pub step_counted-requires-clause-allowed : goal.step_counted-requires-clause-allowed
-step_counted-requires-clause-allowed g c = all_may (g.O.Order.may_write c.steps.order) (λ p b. c.requires.allowed c.steps.order p b) (task_pairs c.steps.machine.root)
+step_counted-requires-clause-allowed g c = all_may (g.O.Order.may_write c.steps.order) (λ p b. c.requires.allowed c.steps.order p b) (task_pairs c.steps.running.machine.root)
 
 pub returns-then-ready-eq0-clause-moved : goal.returns-then-ready-eq0-clause-moved
 returns-then-ready-eq0-clause-moved g c =
-    moved_then (g.O.Order.active c.args.order.now) (g.O.Order.active c.steps.order) (g.O.Order.active c.refuse-then-ready-eq0.new.order) (machine_stock c.args.machine) (machine_stock c.steps.machine) none c.steps.invariant.moved c.refuse-then-ready-eq0.ensures.moved
+    moved_then (g.O.Order.active c.args.order.now) (g.O.Order.active c.steps.order) (g.O.Order.active c.refuse-then-ready-eq0.new.order) (machine_stock c.args.machine) (machine_stock c.steps.running.machine) none c.steps.invariant.moved c.refuse-then-ready-eq0.ensures.moved
 
 pub steps-preserved : goal.steps-preserved
 steps-preserved g c =
     let u : Active = g.O.Order.active c.steps.order in
     let v : Active = g.O.Order.active c.step_counted.new.order in
     record {
-      owned = owned_now u v (machine_stock c.steps.machine) (machine_stock c.step_counted.new.self) c.steps.invariant.owned c.step_counted.ensures.moved;
-      moved = moved_then (g.O.Order.active c.args.order.now) u v (machine_stock c.args.machine) (machine_stock c.steps.machine) (machine_stock c.step_counted.new.self) c.steps.invariant.moved c.step_counted.ensures.moved;
+      owned = owned_now u v (machine_stock c.steps.running.machine) (machine_stock c.step_counted.new.self) c.steps.invariant.owned c.step_counted.ensures.moved;
+      moved = moved_then (g.O.Order.active c.args.order.now) u v (machine_stock c.args.machine) (machine_stock c.steps.running.machine) (machine_stock c.step_counted.new.self) c.steps.invariant.moved c.step_counted.ensures.moved;
       kind = c.step_counted.ensures.kind ∙ c.steps.invariant.kind;
       sources = λ e.
           then_answered g.B.Fallible.faults g.B.Fallible.may_fail g.B.Fallible.must_fail c.args.source.now c.steps.source c.step_counted.new.source (reads_in c.steps.trace.items) (c.steps.invariant.sources e)
@@ -84,16 +81,15 @@ steps-preserved g c =
           (calls_once c.in-Ok-step_counted.step.action) c.in-Ok-step_counted.ensures.pressed;
       tracked = omega (arith, c.step_counted.ensures.tracked, c.steps.invariant.tracked);
       context = c.step_counted.ensures.context ∙ c.steps.invariant.context;
-      known = c.in-Ok-step_counted.ensures.known;
       compressor = c.step_counted.ensures.compressor ∙ c.steps.invariant.compressor;
       ran = λ e x.
-          let k : Exact u (machine_stock c.steps.machine) = exact_then (g.O.Order.active c.args.order.now) u (machine_stock c.args.machine) (machine_stock c.steps.machine) x c.steps.invariant.moved in
+          let k : Exact u (machine_stock c.steps.running.machine) = exact_then (g.O.Order.active c.args.order.now) u (machine_stock c.args.machine) (machine_stock c.steps.running.machine) x c.steps.invariant.moved in
           let place : c.len.result ≡ length c.steps.trace.items = c.len.ensures ∙ c.reserve.new.self.ok.0 ∙ ap length c.reserve.ensures.items in
           run_grows c.args.ctx.now (g.C.CompressorPlugin.image (g.C.CompressorPlugin.kind c.args.compressor.now)) (g.B.BatchSource.kind c.args.source.now) c.args.schedule.now (at (machine_of c.args.machine) (g.B.BatchSource.to_come c.args.source.now) (g.O.Order.outlet c.args.order.now))
-          (at (machine_of c.steps.machine) (g.B.BatchSource.to_come c.steps.source) (g.O.Order.outlet c.steps.order))
+          (at (machine_of c.steps.running.machine) (g.B.BatchSource.to_come c.steps.source) (g.O.Order.outlet c.steps.order))
           (at (machine_of c.step_counted.new.self) (g.B.BatchSource.to_come c.step_counted.new.source) (g.O.Order.outlet c.step_counted.new.order)) c.steps.trace.items c.push_reserved.new.self.items c.in-Ok-step_counted.step
           (c.push_reserved.ensures.items ∙ ap (λ z. z ++ (c.in-Ok-step_counted.step ∷ [])) c.reserve.ensures.items) (c.steps.invariant.ran e x)
-          (run_step c.args.ctx.now c.steps.ctx c.steps.invariant.context (g.C.CompressorPlugin.image (g.C.CompressorPlugin.kind c.args.compressor.now)) (g.C.CompressorPlugin.image (g.C.CompressorPlugin.kind c.steps.compressor)) (ap g.C.CompressorPlugin.image c.steps.invariant.compressor) (g.B.BatchSource.kind c.args.source.now) (g.B.BatchSource.kind c.steps.source) c.steps.invariant.kind c.args.schedule.now u c.steps.machine k
+          (run_step c.args.ctx.now c.steps.ctx c.steps.invariant.context (g.C.CompressorPlugin.image (g.C.CompressorPlugin.kind c.args.compressor.now)) (g.C.CompressorPlugin.image (g.C.CompressorPlugin.kind c.steps.compressor)) (ap g.C.CompressorPlugin.image c.steps.invariant.compressor) (g.B.BatchSource.kind c.args.source.now) (g.B.BatchSource.kind c.steps.source) c.steps.invariant.kind c.args.schedule.now u c.steps.running.machine k
           (omega (arith, c.in-Ok.ensures.told, c.if-ready-eq0.false)) (length c.steps.trace.items) c.pick_at-pick.result (c.pick_at-pick.ensures ∙ ap (slice_index c.args.schedule.now) place)
           (g.B.BatchSource.to_come c.steps.source) (g.B.BatchSource.to_come c.step_counted.new.source) (g.O.Order.outlet c.steps.order) (g.O.Order.outlet c.step_counted.new.order) (machine_of c.step_counted.new.self) c.in-Ok-step_counted.step
           c.in-Ok-step_counted.ensures.told c.in-Ok-step_counted.ensures.done);
@@ -102,7 +98,7 @@ steps-preserved g c =
 -- the machine has finished
 pub returns-then-finished-clause-ran : goal.returns-then-finished-clause-ran
 returns-then-finished-clause-ran g c = λ e x. record {
-  end = at (machine_of c.steps.machine) (g.B.BatchSource.to_come c.steps.source) (g.O.Order.outlet c.steps.order);
+  end = at (machine_of c.steps.running.machine) (g.B.BatchSource.to_come c.steps.source) (g.O.Order.outlet c.steps.order);
   ran = c.steps.invariant.ran e x;
   told = refl;
   sink = refl;
@@ -113,40 +109,40 @@ returns-then-finished-clause-ran g c = λ e x. record {
 pub returns-then-ready-eq0-clause-ran : goal.returns-then-ready-eq0-clause-ran
 returns-then-ready-eq0-clause-ran g c = λ e x.
     let u : Active = g.O.Order.active c.steps.order in
-    let k : Exact u (machine_stock c.steps.machine) = exact_then (g.O.Order.active c.args.order.now) u (machine_stock c.args.machine) (machine_stock c.steps.machine) x c.steps.invariant.moved in
-    let n : machine_ready u c.steps.machine ≡ 0 = omega (arith, c.in-Ok.ensures.told, c.if-ready-eq0.true) in
+    let k : Exact u (machine_stock c.steps.running.machine) = exact_then (g.O.Order.active c.args.order.now) u (machine_stock c.args.machine) (machine_stock c.steps.running.machine) x c.steps.invariant.moved in
+    let n : machine_ready u c.steps.running.machine ≡ 0 = omega (arith, c.in-Ok.ensures.told, c.if-ready-eq0.true) in
     record {
-      end = at (machine_of c.steps.machine) (g.B.BatchSource.to_come c.steps.source) (g.O.Order.outlet c.steps.order);
+      end = at (machine_of c.steps.running.machine) (g.B.BatchSource.to_come c.steps.source) (g.O.Order.outlet c.steps.order);
       ran = c.steps.invariant.ran e x;
       told = refl;
       sink = c.refuse-then-ready-eq0.ensures.outlet;
-      left = (sym c.finished.ensures.view ∙ c.if-finished.false, ready_held u c.steps.machine k (setting_of c.args.ctx.now (g.C.CompressorPlugin.image (g.C.CompressorPlugin.kind c.args.compressor.now))) ∙ n);
+      left = (sym c.finished.ensures.view ∙ c.if-finished.false, ready_held u c.steps.running.machine k (setting_of c.args.ctx.now (g.C.CompressorPlugin.image (g.C.CompressorPlugin.kind c.args.compressor.now))) ∙ n);
     }
 
 -- the step is refused
 pub returns-in-Err-step_counted-clause-ran : goal.returns-in-Err-step_counted-clause-ran
 returns-in-Err-step_counted-clause-ran g c = λ e x.
     let u : Active = g.O.Order.active c.steps.order in
-    let k : Exact u (machine_stock c.steps.machine) = exact_then (g.O.Order.active c.args.order.now) u (machine_stock c.args.machine) (machine_stock c.steps.machine) x c.steps.invariant.moved in
+    let k : Exact u (machine_stock c.steps.running.machine) = exact_then (g.O.Order.active c.args.order.now) u (machine_stock c.args.machine) (machine_stock c.steps.running.machine) x c.steps.invariant.moved in
     let place : c.len.result ≡ length c.reserve.new.self.items = c.len.ensures ∙ c.reserve.new.self.ok.0 in
-    let some : 0 < machine_ready u c.steps.machine = omega (arith, c.in-Ok.ensures.told, c.if-ready-eq0.false) in
+    let some : 0 < machine_ready u c.steps.running.machine = omega (arith, c.in-Ok.ensures.told, c.if-ready-eq0.false) in
     let pick : c.pick_at-pick.result ≡ slice_index c.args.schedule.now (length c.reserve.new.self.items) = c.pick_at-pick.ensures ∙ ap (slice_index c.args.schedule.now) place in
-    let counts : counted_bytes c.steps.ctx ≡ tracker_by c.args.ctx.now (machine_of c.steps.machine) = c.steps.invariant.tracked ∙ ap (λ z. counted_bytes c.args.ctx.now + z) (sym (task_view c.steps.machine.root)) in
+    let counts : counted_bytes c.steps.ctx ≡ tracker_by c.args.ctx.now (machine_of c.steps.running.machine) = c.steps.invariant.tracked ∙ ap (λ z. counted_bytes c.args.ctx.now + z) (sym (task_view c.steps.running.machine.root)) in
     record {
       stop = record {
-        end = at (machine_of c.steps.machine) (g.B.BatchSource.to_come c.steps.source) (g.O.Order.outlet c.steps.order);
+        end = at (machine_of c.steps.running.machine) (g.B.BatchSource.to_come c.steps.source) (g.O.Order.outlet c.steps.order);
         ran = subst (λ ts. Ran c.args.ctx.now (g.C.CompressorPlugin.image (g.C.CompressorPlugin.kind c.args.compressor.now)) (g.B.BatchSource.kind c.args.source.now) c.args.schedule.now 0 (at (machine_of c.args.machine) (g.B.BatchSource.to_come c.args.source.now) (g.O.Order.outlet c.args.order.now)) ts
-            (at (machine_of c.steps.machine) (g.B.BatchSource.to_come c.steps.source) (g.O.Order.outlet c.steps.order))) (sym c.reserve.ensures.items) (c.steps.invariant.ran e x);
+            (at (machine_of c.steps.running.machine) (g.B.BatchSource.to_come c.steps.source) (g.O.Order.outlet c.steps.order))) (sym c.reserve.ensures.items) (c.steps.invariant.ran e x);
         kept = subst (λ o. Kept (g.O.Order.outlet c.steps.order) o) (sym c.refuse-in-Err-step_counted.ensures.outlet) c.in-Err-step_counted.ensures.kept;
-        stops = run_refused c.args.ctx.now c.steps.ctx c.steps.invariant.context (g.C.CompressorPlugin.image (g.C.CompressorPlugin.kind c.args.compressor.now)) (g.C.CompressorPlugin.image (g.C.CompressorPlugin.kind c.steps.compressor)) (ap g.C.CompressorPlugin.image c.steps.invariant.compressor) (g.B.BatchSource.kind c.args.source.now) (g.B.BatchSource.kind c.steps.source) c.steps.invariant.kind c.args.schedule.now u c.steps.machine k
+        stops = run_refused c.args.ctx.now c.steps.ctx c.steps.invariant.context (g.C.CompressorPlugin.image (g.C.CompressorPlugin.kind c.args.compressor.now)) (g.C.CompressorPlugin.image (g.C.CompressorPlugin.kind c.steps.compressor)) (ap g.C.CompressorPlugin.image c.steps.invariant.compressor) (g.B.BatchSource.kind c.args.source.now) (g.B.BatchSource.kind c.steps.source) c.steps.invariant.kind c.args.schedule.now u c.steps.running.machine k
             some (length c.reserve.new.self.items) c.pick_at-pick.result pick
             (g.B.BatchSource.to_come c.steps.source) (g.B.BatchSource.to_come c.step_counted.new.source) (g.O.Order.outlet c.steps.order) c.in-Err-step_counted.error counts c.in-Err-step_counted.ensures.refused;
       };
       passed = misfit_passed g.B.Fallible.faults g.B.Fallible.may_fail g.B.Fallible.must_fail c.args.source.now c.steps.source c.step_counted.new.source (reads_in c.reserve.new.self.items)
           (subst (λ ts. Answered g.B.Fallible.faults g.B.Fallible.may_fail g.B.Fallible.must_fail c.args.source.now c.steps.source (reads_in ts)) (sym c.reserve.ensures.items) (c.steps.invariant.sources e))
-          (reads_at (phase_of c.steps.machine.phase) (c.pick_at-pick.result % machine_ready u c.steps.machine))
-          (reads_at (phase_of c.steps.machine.phase) (picked_at c.args.schedule.now (length c.reserve.new.self.items) (machine_of c.steps.machine))) c.in-Err-step_counted.error
-          (reads_same c.args.ctx.now c.steps.ctx c.steps.invariant.context (g.C.CompressorPlugin.image (g.C.CompressorPlugin.kind c.args.compressor.now)) (g.C.CompressorPlugin.image (g.C.CompressorPlugin.kind c.steps.compressor)) (ap g.C.CompressorPlugin.image c.steps.invariant.compressor) (g.B.BatchSource.kind c.args.source.now) (g.B.BatchSource.kind c.steps.source) c.steps.invariant.kind c.args.schedule.now u c.steps.machine k
+          (reads_at (phase_of c.steps.running.machine.phase) (c.pick_at-pick.result % machine_ready u c.steps.running.machine))
+          (reads_at (phase_of c.steps.running.machine.phase) (picked_at c.args.schedule.now (length c.reserve.new.self.items) (machine_of c.steps.running.machine))) c.in-Err-step_counted.error
+          (reads_same c.args.ctx.now c.steps.ctx c.steps.invariant.context (g.C.CompressorPlugin.image (g.C.CompressorPlugin.kind c.args.compressor.now)) (g.C.CompressorPlugin.image (g.C.CompressorPlugin.kind c.steps.compressor)) (ap g.C.CompressorPlugin.image c.steps.invariant.compressor) (g.B.BatchSource.kind c.args.source.now) (g.B.BatchSource.kind c.steps.source) c.steps.invariant.kind c.args.schedule.now u c.steps.running.machine k
           some (length c.reserve.new.self.items) c.pick_at-pick.result pick)
           c.in-Err-step_counted.ensures.source_told;
     }
@@ -175,7 +171,7 @@ pub returns-in-Err-step_counted-clause-source : goal.returns-in-Err-step_counted
 returns-in-Err-step_counted-clause-source g c = λ e.
     source_ends g.B.Fallible.faults g.B.Fallible.may_fail g.B.Fallible.must_fail c.args.source.now c.steps.source c.step_counted.new.source (reads_in c.reserve.new.self.items)
     (subst (λ ts. Answered g.B.Fallible.faults g.B.Fallible.may_fail g.B.Fallible.must_fail c.args.source.now c.steps.source (reads_in ts)) (sym c.reserve.ensures.items) (c.steps.invariant.sources e))
-    (reads_at (phase_of c.steps.machine.phase) (c.pick_at-pick.result % machine_ready (g.O.Order.active c.steps.order) c.steps.machine)) c.in-Err-step_counted.error c.in-Err-step_counted.ensures.source_told
+    (reads_at (phase_of c.steps.running.machine.phase) (c.pick_at-pick.result % machine_ready (g.O.Order.active c.steps.order) c.steps.running.machine)) c.in-Err-step_counted.error c.in-Err-step_counted.ensures.source_told
 
 pub returns-in-Err-step_counted-clause-sink : goal.returns-in-Err-step_counted-clause-sink
 returns-in-Err-step_counted-clause-sink g c = λ e.
