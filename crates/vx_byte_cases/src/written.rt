@@ -28,7 +28,7 @@ fn take<T>(alloc: Global, list: &mut Vec<T>) -> Vec<T> {
 }
 
 /// Those of the job, of which its batches are taken.
-fn objects(alloc: Global, job: &mut Job) -> Result<Box<Objects>, AllocError> {
+fn made_objects(alloc: Global, job: &mut Job) -> Result<Box<Objects>, AllocError> {
     let dtype = job.schema.clone()?;
     let batches = take(alloc, &mut job.batches);
     let objects = Objects {
@@ -125,7 +125,7 @@ fn tell_write(
 }
 
 fn tell_job(alloc: Global, answer: &mut Answer, before: u64, job: &mut Job) -> anyhow::Result<()> {
-    let mut objects = objects(alloc, job)?;
+    let mut objects = made_objects(alloc, job)?;
     tell_write(alloc, answer, before, job, &mut objects)
 }
 
