@@ -1,4 +1,4 @@
-mod Standing
+pub mod Standing
 mod Stepping
 mod Noting
 mod Ending

@@ -46,7 +46,7 @@ module _ (g : Write) (o : Outset) (taken : List ChunkData) (f : Future) (seen : 
   as_many_at = ap length r.seen_is ∙ notes_length g.setting (depth g) (begin_at g o taken f) g.schedule r.moves
 
   module _ (can : CanBegin o (length (taken ++ f.later))) where
-    at_start_at : IsPlannedAt g.setting g.way g.type g.mark o (taken ++ f.later) f.fits (planned_at g o taken f)
+    pub at_start_at : IsPlannedAt g.setting g.way g.type g.mark o (taken ++ f.later) f.fits (planned_at g o taken f)
     at_start_at = start_at_is_planned g.setting g.way g.type g.mark o (taken ++ f.later) f.fits can
 
     pub runs_at : Runs g.setting (depth g) (begin_at g o taken f) r.moves r.tree
@@ -56,8 +56,12 @@ module _ (g : Write) (o : Outset) (taken : List ChunkData) (f : Future) (seen : 
         × Stands g.setting (depth g) r.tree
     leads_at = runs_lead g.setting (depth g) (begin_at g o taken f) r.tree r.moves at_start_at.stands runs_at
 
-    leads_on_at : Leads (scripts_at g o taken f) Zeros (map view r.moves) (counts r.tree)
+    pub leads_on_at : Leads (scripts_at g o taken f) Zeros (map view r.moves) (counts r.tree)
     leads_on_at = subst (λ z. Leads (scripts_at g o taken f) z (map view r.moves) (counts r.tree)) at_start_at.zeros leads_at.0
+
+    -- what is read off the state is what is read off the start
+    pub reads_at : {F : Type 0} (v : Reading F) → read g.setting v (depth g) 0 [] r.tree ≡ read g.setting v (depth g) 0 [] (begin_at g o taken f)
+    reads_at v = runs_read v g.setting (depth g) (begin_at g o taken f) r.tree r.moves at_start_at.stands runs_at
 
     -- a move of the machine is one of the theory
     there_at : (m : TreeMove) → In m (moves_at g r.tree) → In (view m) (all_moves (scripts_at g o taken f) (counts r.tree))

@@ -9,7 +9,7 @@ use Rattle.vx_tasks.specs.Rules.{AtLeast}
 use Rattle.vx_tasks.specs.Run.{Note, nth, note, run, trace, work}
 use Rattle.vx_named_tasks.specs.Names.{Outset, root_outset, CanBegin}
 use Rattle.vx_cut_laws.specs.Cut.{cut}
-use Rattle.vx_plan.specs.PlanData.{Pair, What, paths}
+use Rattle.vx_plan.specs.PlanData.{Pair, Plan, What, paths}
 use Rattle.vx_plan.specs.SourcePlan.{start_fault, taken_plan}
 use Rattle.vx_plan.specs.Number.{sorted}
 use Rattle.vx_plan.specs.Valid.{Has, Fit, OfSchema}
@@ -119,31 +119,54 @@ HistoryIsFirst = Promise (λ g taken f seen history tracker t. (more : List Pair
 
 -- ---- the end
 
-pub record Ended (g : Write) (taken : List ChunkData) (f : Future) (history : List Pair) (tracker : ℕ) (t : Tree) : Type 0 where
+-- all is done by this plan
+pub record EndedBy (g : Write) (p : Plan) (f : Future) (history : List Pair) (tracker : ℕ) (t : Tree) : Type 0 where
   pub fits : f.fits ≡ true
-  pub faultless : (planned g taken f).faults ≡ []
-  pub whole : history ≡ sorted (planned g taken f).pairs
-  pub layout : read g.setting layout_reading (depth g) 0 [] t ≡ (planned g taken f).layout ∷ []
+  pub faultless : p.faults ≡ []
+  pub whole : history ≡ sorted p.pairs
+  pub layout : read g.setting layout_reading (depth g) 0 [] t ≡ p.layout ∷ []
   pub tracked : tracker ≡ g.tracker
   pub free : all_paths t ≡ []
 
--- where all is done, and the start refused nothing
+-- wherever it begins, where all is done and the start refused nothing
+abbrev pub EndIsPlannedAt : Outset → Type 0
+EndIsPlannedAt o = PromiseAt o (λ g taken f seen history tracker t. IsTrue (all_over t) → start_fault g.setting g.way g.type g.mark ≡ None
+    → EndedBy g (planned_at g o taken f) f history tracker t)
+
+-- of a whole write
+
+abbrev pub Ended : Write → List ChunkData → Future → List Pair → ℕ → Tree → Type 0
+Ended g taken f history tracker t = EndedBy g (planned g taken f) f history tracker t
+
 abbrev pub EndIsPlanned : Type 0
 EndIsPlanned = Promise (λ g taken f seen history tracker t. IsTrue (all_over t) → start_fault g.setting g.way g.type g.mark ≡ None → Ended g taken f history tracker t)
 
 -- ---- causes: of a move that can be done, whether it is done or not
 
 -- what it refuses is a fault of the plan
+
+abbrev pub RefusesBy : Write → Plan → Tree → Type 0
+RefusesBy g p t = (m : TreeMove) (w : What) → In m (moves_at g t) → m.act.refusal ≡ Some w → Has w p.faults
+
+abbrev pub RefusalsHaveCauseAt : Outset → Type 0
+RefusalsHaveCauseAt o = PromiseAt o (λ g taken f seen history tracker t. RefusesBy g (planned_at g o taken f) t)
+
 abbrev pub RefusalsHaveCause : Type 0
-RefusalsHaveCause = Promise (λ g taken f seen history tracker t. (m : TreeMove) (w : What) → In m (moves_at g t) → m.act.refusal ≡ Some w → Has w (planned g taken f).faults)
+RefusalsHaveCause = Promise (λ g taken f seen history tracker t. RefusesBy g (planned g taken f) t)
 
 -- What it counts, against the plan's numbers.
-pub record Counted (g : Write) (taken : List ChunkData) (f : Future) (tracker : ℕ) (m : TreeMove) : Type 0 where
-  pub numbers : (n : ℕ) → In n m.act.numbers → In n (planned g taken f).numbers
+pub record CountedBy (g : Write) (p : Plan) (tracker : ℕ) (m : TreeMove) : Type 0 where
+  pub numbers : (n : ℕ) → In n m.act.numbers → In n p.numbers
   -- how far pointers come, its own and those of what it starts
-  pub indices : (n : ℕ) → In n m.act.indices → AtMost n (planned g taken f).numbers
-  pub births : (n : ℕ) → In n (opened m.room m.act.starts) → AtMost n (planned g taken f).numbers
-  pub tracked : tracker + m.act.raises ≤ g.tracker + (planned g taken f).reserved
+  pub indices : (n : ℕ) → In n m.act.indices → AtMost n p.numbers
+  pub births : (n : ℕ) → In n (opened m.room m.act.starts) → AtMost n p.numbers
+  pub tracked : tracker + m.act.raises ≤ g.tracker + p.reserved
+
+abbrev pub MovesAreCountedAt : Outset → Type 0
+MovesAreCountedAt o = PromiseAt o (λ g taken f seen history tracker t. (m : TreeMove) → In m (moves_at g t) → CountedBy g (planned_at g o taken f) tracker m)
+
+abbrev pub Counted : Write → List ChunkData → Future → ℕ → TreeMove → Type 0
+Counted g taken f tracker m = CountedBy g (planned g taken f) tracker m
 
 abbrev pub MovesAreCounted : Type 0
 MovesAreCounted = Promise (λ g taken f seen history tracker t. (m : TreeMove) → In m (moves_at g t) → Counted g taken f tracker m)
@@ -157,9 +180,15 @@ pub record Sound (g : Write) (tracker : ℕ) (m : TreeMove) : Type 0 where
   pub tracked : tracker + m.act.raises < 2 ^ 64
 
 -- of a plan without a fault, whose numbers fit, as what it reserves does in the tracker
+
+abbrev pub SoundBy : Write → Plan → ℕ → Tree → Type 0
+SoundBy g p tracker t = p.faults ≡ [] → Fit p.numbers → g.tracker + p.reserved < 2 ^ 64 → (m : TreeMove) → In m (moves_at g t) → Sound g tracker m
+
+abbrev pub ValidIsSoundAt : Outset → Type 0
+ValidIsSoundAt o = PromiseAt o (λ g taken f seen history tracker t. SoundBy g (planned_at g o taken f) tracker t)
+
 abbrev pub ValidIsSound : Type 0
-ValidIsSound = Promise (λ g taken f seen history tracker t. (planned g taken f).faults ≡ [] → Fit (planned g taken f).numbers → g.tracker + (planned g taken f).reserved < 2 ^ 64
-    → (m : TreeMove) → In m (moves_at g t) → Sound g tracker m)
+ValidIsSound = Promise (λ g taken f seen history tracker t. SoundBy g (planned g taken f) tracker t)
 
 -- what an append writes is one more of the plan's pairs
 abbrev pub AppendsFit : Type 0

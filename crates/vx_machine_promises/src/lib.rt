@@ -3,10 +3,10 @@
 #![tactic(auto)]
 
 ghost use Rattle.vx_named_tasks.specs.Names.{Outset};
-ghost use Rattle.vx_machine_promises.specs.Promises.{StartIsReachedAt, StepIsReachedAt, StateStandsAt, SomethingIsReadyAt, WorkFallsAt, HistoryIsFirstAt, PathsAreApartAt, StartIsReached, StepIsReached, SomethingIsReady, WorkFalls, WorkIsShared, SeenIsFirst, SeenIsWhole, AllSteps, FewerSteps, HistoryIsFirst, EndIsPlanned, RefusalsHaveCause, MovesAreCounted, StartIsCounted, ValidIsSound, AppendsFit, TakenIsPlanned};
+ghost use Rattle.vx_machine_promises.specs.Promises.{StartIsReachedAt, StepIsReachedAt, StateStandsAt, SomethingIsReadyAt, WorkFallsAt, HistoryIsFirstAt, PathsAreApartAt, EndIsPlannedAt, RefusalsHaveCauseAt, MovesAreCountedAt, ValidIsSoundAt, StartIsReached, StepIsReached, SomethingIsReady, WorkFalls, WorkIsShared, SeenIsFirst, SeenIsWhole, AllSteps, FewerSteps, HistoryIsFirst, EndIsPlanned, RefusalsHaveCause, MovesAreCounted, StartIsCounted, ValidIsSound, AppendsFit, TakenIsPlanned};
 
 /// Wherever a machine begins, over whatever sink: from the start on, step by step; something is ready, each move lowers the work left by
-/// one, and what was appended are the first of all pairs.
+/// one, and what was appended are the first of all pairs. Where all is done it is as planned, and what a move refuses and counts is.
 pub fn anywhere()
     ensures start { (o : Outset) → StartIsReachedAt o }
     ensures step { (o : Outset) → StepIsReachedAt o }
@@ -15,6 +15,10 @@ pub fn anywhere()
     ensures falls { (o : Outset) → WorkFallsAt o }
     ensures front { (o : Outset) → HistoryIsFirstAt o }
     ensures apart { (o : Outset) → PathsAreApartAt o }
+    ensures ends { (o : Outset) → EndIsPlannedAt o }
+    ensures refusals { (o : Outset) → RefusalsHaveCauseAt o }
+    ensures moves { (o : Outset) → MovesAreCountedAt o }
+    ensures sound { (o : Outset) → ValidIsSoundAt o }
 {}
 
 /// From the start on, step by step.

@@ -1,11 +1,13 @@
 -- Runs of the machine wherever it begins and over whatever sink.
-use Rattle.std.proofs.Common.{◌≡◌, ◌+◌, ◌%◌, ◌<◌, ◌||◌, ◌∷◌, ◌++◌, ◌∙◌, ℕ, suc, Bool, true, false, if◌then◌else◌, bytes_eq, List, map, length, refl, sym, ap, subst, arith, Some, None, is_some, append_assoc, append-nil, length-append, inl, inr, []}
+use Rattle.std.proofs.Common.{◌≡◌, ◌+◌, ◌%◌, ◌<◌, ◌≤◌, ◌||◌, ◌⊎◌, ◌∷◌, ◌++◌, ◌∙◌, ℕ, suc, Bool, true, false, if◌then◌else◌, bytes_eq, List, map, length, refl, sym, ap, subst, arith, Some, None, is_some, append_assoc, append-nil, length-append, inl, inr, ⊎_elim, []}
 use Rattle.std.specs.Cmp.Lexicographic.{bytes_decides}
 use Rattle.std.proofs.lemmas.Bool.{true≢false}
 use Rattle.vx_model.specs.ChunkData.{ChunkData}
 use Rattle.vx_path.specs.Lists.{In}
+use Rattle.vx_path.proofs.Lists.{in_cases}
 use Rattle.vx_path.specs.Path.{Eof, Scattered, meets}
 use Rattle.vx_machine_state.specs.Images.{Careful}
+use Rattle.vx_layout_spec.specs.LayoutTree.{renamed}
 use Rattle.vx_tasks.specs.State.{left}
 use Rattle.vx_tasks.specs.Rules.{AtLeast}
 use Rattle.vx_tasks.specs.Task.{Append}
@@ -13,31 +15,37 @@ use Rattle.vx_tasks.specs.Run.{Note, nth, first_pick, later_picks}
 use Rattle.vx_tasks.specs.Runs.{noted}
 use Rattle.vx_cut_laws.specs.Cut.{cut}
 use Rattle.vx_named_tasks.specs.Names.{Outset, CanBegin}
-use Rattle.vx_plan.specs.PlanData.{Pair, paths}
+use Rattle.vx_plan.specs.PlanData.{Pair, Plan, paths}
 use Rattle.vx_plan.specs.Number.{sorted}
 use Rattle.vx_plan.proofs.Fronts.{scattered_sorted}
 use Rattle.vx_plan.proofs.Numbering.{in_paths, clash}
 use Rattle.vx_plan.proofs.Spots.{scattered_left}
 use Rattle.vx_machine_turns.specs.Acts.{refuses, written_by}
-use Rattle.vx_machine_steps.specs.Tree.{Tree, counts}
+use Rattle.vx_machine_turns.specs.Source.{stream_plan}
+use Rattle.vx_machine_turns.specs.Readings.{number_reading}
+use Rattle.vx_machine_steps.specs.Tree.{Tree, read, opened, counts}
 use Rattle.vx_machine_steps.specs.Moves.{TreeMove, tree_moves, all_paths, all_over}
 use Rattle.vx_machine_steps.specs.Runs.{picks_after}
 use Rattle.vx_machine_steps.specs.Stands.{Stands}
-use Rattle.vx_machine_steps.specs.StartPlanned.{forest_at}
+use Rattle.vx_machine_steps.specs.StartPlanned.{started_at, forest_at}
 use Rattle.vx_machine_promises.specs.Write.{Write, Future, Open, Answer, unasked, came, over, depth, scripts_at, planned_at, taken_by, heard_by, before}
 use Rattle.vx_machine_promises.specs.Reached.{ReachedAt, moves_at, pick_at, Stepped}
-use Rattle.vx_machine_promises.specs.Promises.{StartIsReachedAt, StepIsReachedAt, StateStandsAt, SomethingIsReadyAt, WorkFallsAt, HistoryIsFirstAt, PathsAreApartAt}
+use Rattle.vx_machine_promises.specs.Promises.{StartIsReachedAt, StepIsReachedAt, StateStandsAt, SomethingIsReadyAt, WorkFallsAt, HistoryIsFirstAt, PathsAreApartAt, EndedBy, EndIsPlannedAt, RefusalsHaveCauseAt, CountedBy, MovesAreCountedAt}
 use Rattle.vx_machine_state.specs.Reserved.{reserved_by}
 use Rattle.vx_machine_view.specs.Machine.{Phase, Machine, WholeStep, whole_steps, is_finished, machine_ids}
 use Rattle.vx_machine_view.specs.Places.{whole_ready}
 use Rattle.vx_machine_view.specs.Whole.{form_of, Asks, outset_from, SameHeld, ShowsMachineAt, SameWholeAt}
-use Rattle.vx_machine_view.proofs.Ending.{held_shows_at, moves_shows_at, finish_shows_at}
+use Rattle.vx_machine_view.proofs.Ending.{held_shows_at, moves_shows_at, finish_shows_at, layout_shows_at}
 use Rattle.vx_machine_view.proofs.Placing.{whole_is_ready}
 use Rattle.vx_machine_view.proofs.Reserving.{start_reserves_at, whole_reserves_at}
-use Rattle.vx_machine_view.proofs.Wholes.{start_shows_at, step_shows_at, ready_shows_at}
+use Rattle.vx_machine_view.proofs.Wholes.{start_shows_at, step_shows_at, ready_shows_at, free_below_at}
+use Rattle.vx_machine_view.proofs.Counting.{whole_joins}
+use Rattle.vx_machine_promises.proofs.Standing.{at_start_at, reads_at}
 use Rattle.vx_machine_view.proofs.Words.{same_some}
+use Rattle.vx_machine_runs.specs.Ends.{Caused}
+use Rattle.vx_machine_runs.specs.Tracked.{Comes}
 use Rattle.vx_machine_runs.specs.Runs.{Asking, TypedAnswer, BeforeEnd, PickedBy}
-use Rattle.vx_machine_runs.specs.Courses.{Point, start_point, point_after, Goes, GoesBy, HasComeTo, tracked_at, Numbered, StandsIn, ForFutures, LeavesIn, CourseIsUnderway, CourseIsReady, CourseIsFront, CourseGoesOn}
+use Rattle.vx_machine_runs.specs.Courses.{Point, start_point, point_after, Goes, GoesBy, HasComeTo, tracked_at, Numbered, StandsIn, ForFutures, LeavesIn, CourseIsUnderway, CourseIsReady, CourseIsFront, CourseGoesOn, FinishedBy, CourseEnds, ChosenAt, CausedThere, CourseHasCause}
 use Rattle.vx_machine_runs.proofs.Asking.{is_past, Tells, step_tells, before_end}
 use Rattle.vx_machine_runs.proofs.Counting.{nth_in}
 use Rattle.vx_machine_runs.proofs.Ending.{none_later, open_none}
@@ -385,3 +393,97 @@ course_goes_on starts reached stands falls first apart g stream eof notes x y n 
   less_on starts reached stands falls first apart g stream eof h.careful notes x y n d pick (comes_long g notes (start_point g stream eof) x h.comes refl)
       (under_way starts reached stands falls first apart g stream eof notes x h),
 )
+
+pub ends_as_planned : ((o : Outset) → StartIsReachedAt o) → ((o : Outset) → StepIsReachedAt o) → ((o : Outset) → StateStandsAt o) → ((o : Outset) → WorkFallsAt o) → ((o : Outset) → HistoryIsFirstAt o)
+    → ((o : Outset) → PathsAreApartAt o) → ((o : Outset) → EndIsPlannedAt o) → CourseEnds
+ends_as_planned starts reached stands falls first apart ends g stream eof notes x h can fin =
+    by (under_way starts reached stands falls first apart g stream eof notes x h (none_later x.heard) (open_none x.heard) can_none)
+  where
+    can_none : CanBegin (outset_from stream eof) (length (x.taken ++ []))
+    can_none = subst (λ bs. CanBegin (outset_from stream eof) (length bs)) (sym (append-nil x.taken)) can
+
+    long : length x.numbers ≡ length x.history
+    long = comes_long g notes (start_point g stream eof) x h.comes refl
+
+    by : StandsIn g (outset_from stream eof) notes x (none_later x.heard) → FinishedBy (stream_plan g.setting g.way g.type g.mark (outset_from stream eof) x.taken true) x
+    by s =
+        let stood : Stands g.setting (depth g) s.reached.tree = stands (outset_from stream eof) g x.taken (none_later x.heard) notes x.history (tracked_at g x) s.reached can_none in
+        let over_now : all_over s.reached.tree ≡ true =
+        sym (is_over reached stands falls first apart g (outset_from stream eof) h.careful notes x (none_later x.heard) long can_none s.reached s.shows) ∙ fin in
+        let e : EndedBy g (planned_at g (outset_from stream eof) x.taken (none_later x.heard)) (none_later x.heard) x.history (tracked_at g x) s.reached.tree =
+        ends (outset_from stream eof) g x.taken (none_later x.heard) notes x.history (tracked_at g x) s.reached can_none over_now h.starts in
+        let p : planned_at g (outset_from stream eof) x.taken (none_later x.heard) ≡ stream_plan g.setting g.way g.type g.mark (outset_from stream eof) x.taken true =
+        ap (λ z. stream_plan g.setting g.way g.type g.mark (outset_from stream eof) z x.heard) (append-nil x.taken) ∙ ap (λ b. stream_plan g.setting g.way g.type g.mark (outset_from stream eof) x.taken b) e.fits in
+        record {
+          heard = e.fits;
+          faultless = ap (λ (z : Plan). z.faults) (sym p) ∙ e.faultless;
+          appended = e.whole ∙ ap (λ (z : Plan). sorted z.pairs) p;
+          layout = λ number numbered. layout_shows_at (outset_from stream eof) g number (none_later x.heard) x.machine s.reached.tree stood (s.shows number numbered) over_now
+              ∙ ap (map (renamed number)) e.layout ∙ ap (λ (z : Plan). renamed number z.layout ∷ []) p;
+          released = let t : g.tracker + reserved_by x.machine.root ≡ g.tracker = e.tracked in omega (arith, t);
+        }
+
+-- ---- causes
+
+caused_then : (g : Write) (o : Outset) (notes : List Note) (x : Point) (taken : List ChunkData) (told : Answer) (f : Future) (k : ℕ) (w : WholeStep) → CausedThere g o notes x taken (before told f) k w
+    → CausedThere g o notes x (taken_by taken told) f k w
+caused_then g o notes x taken unasked f k w c = c
+caused_then g o notes x taken (came b) f k w c =
+    let e : taken ++ (b ∷ f.later) ≡ (taken ++ (b ∷ [])) ++ f.later = sym (append_assoc taken (b ∷ []) f.later) in
+    record {
+      caused = subst (λ z. Caused (stream_plan g.setting g.way g.type g.mark o z f.fits) w) e c.caused;
+      comes = subst (λ z. Comes g (started_at g.way g.type g.mark o z f.fits) notes k (tracked_at g x + w.raises)) e c.comes;
+      within = subst (λ z. tracked_at g x + w.raises ≤ g.tracker + (stream_plan g.setting g.way g.type g.mark o z f.fits).reserved) e c.within;
+    }
+caused_then g o notes x taken over f k w c = c
+
+pub course_has_cause : ((o : Outset) → StartIsReachedAt o) → ((o : Outset) → StepIsReachedAt o) → ((o : Outset) → StateStandsAt o) → ((o : Outset) → WorkFallsAt o) → ((o : Outset) → HistoryIsFirstAt o)
+    → ((o : Outset) → PathsAreApartAt o) → ((o : Outset) → RefusalsHaveCauseAt o) → ((o : Outset) → MovesAreCountedAt o) → CourseHasCause
+course_has_cause starts reached stands falls first apart refusals moved_counts g stream eof notes x told number k w f h c may can =
+    caused_then g (outset_from stream eof) notes x x.taken told f k w
+    (by (under_way starts reached stands falls first apart g stream eof notes x h (before told f) (open_before x.heard told f c.once may) can_before))
+  where
+    can_before : CanBegin (outset_from stream eof) (length (x.taken ++ (before told f).later))
+    can_before = subst (λ bs. CanBegin (outset_from stream eof) (length bs)) (sym (same_batches x.taken told f)) can
+
+    long : length x.numbers ≡ length x.history
+    long = comes_long g notes (start_point g stream eof) x h.comes refl
+
+    by : StandsIn g (outset_from stream eof) notes x (before told f) → CausedThere g (outset_from stream eof) notes x x.taken (before told f) k w
+    by s =
+        let stood : Stands g.setting (depth g) s.reached.tree = stands (outset_from stream eof) g x.taken (before told f) notes x.history (tracked_at g x) s.reached can_before in
+        let shows_it : ShowsMachineAt g (outset_from stream eof) (number_in x.history x.numbers) x.machine (before told f) s.reached.tree = shown reached stands falls first apart g (outset_from stream eof) h.careful notes x (before told f) long can_before s.reached s.shows in
+        let m : (v : TreeMove) × (nth (tree_moves g.setting (machine_ids x.machine) (depth g) s.reached.tree) k ≡ Some v) × SameWholeAt g (outset_from stream eof) (number_in x.history x.numbers) number f w v =
+        step_shows_at (outset_from stream eof) g (number_in x.history x.numbers) number (machine_ids x.machine) x.heard told f x.machine s.reached.tree k w h.careful stood may shows_it c.place
+        (asks_by g.setting g.type (machine_ids x.machine) number x.machine told k w f c.place c.asks c.typed c.fits) in
+        let place : nth (moves_at g s.reached.tree) k ≡ Some m.0 =
+        ap (λ z. nth z k) (sym (same_moves reached stands falls first apart g (outset_from stream eof) h.careful notes x (before told f) long can_before s.reached s.shows)) ∙ m.1 in
+        let i : In m.0 (moves_at g s.reached.tree) = nth_in (moves_at g s.reached.tree) k m.0 place in
+        let n : CountedBy g (planned_at g (outset_from stream eof) x.taken (before told f)) (tracked_at g x) m.0 = moved_counts (outset_from stream eof) g x.taken (before told f) notes x.history (tracked_at g x) s.reached can_before m.0 i in
+        record {
+          caused = record {
+            refusal = λ v e. refusals (outset_from stream eof) g x.taken (before told f) notes x.history (tracked_at g x) s.reached can_before m.0 v i (sym m.2.refusal ∙ e);
+            numbers = λ j q. n.numbers j (subst (In j) m.2.numbers q);
+            indices = λ j q. ⊎_elim (n.indices j) (n.births j) (in_cases j m.0.act.indices (opened m.0.room m.0.act.starts) (subst (In j) m.2.indices q));
+            joined = λ j q. joined_by j (whole_joins g (outset_from stream eof) (number_in x.history x.numbers) number (machine_ids x.machine) told (before told f) x.machine s.reached.tree shows_it
+                (free_below_at g (outset_from stream eof) x.machine (before told f) shows_it.past shows_it.kids s.reached.tree shows_it.tree_is stood) w
+                (nth_in (whole_steps g.setting (machine_ids x.machine) number told x.machine) k w c.place) j q);
+          };
+          comes = record {
+            tree = s.reached.tree;
+            moves = s.reached.moves;
+            runs = s.reached.runs;
+            seen_is = s.reached.seen_is;
+            move = m.0;
+            place = place;
+            counts = tracked_at g x;
+            counts_are = s.reached.tracked;
+            number_is = ap (λ z. tracked_at g x + z) m.2.raises;
+          };
+          within = subst (λ z. tracked_at g x + z ≤ g.tracker + (planned_at g (outset_from stream eof) x.taken (before told f)).reserved) (sym m.2.raises) n.tracked;
+        }
+      where
+        joined_by : (j : ℕ) → (j ≡ 0) ⊎ In j (read g.setting number_reading (depth g) 0 [] s.reached.tree) → (j ≡ 0) ⊎ In j (planned_at g (outset_from stream eof) x.taken (before told f)).numbers
+        joined_by j (inl e) = inl e
+        joined_by j (inr q) = inr ((at_start_at g (outset_from stream eof) x.taken (before told f) notes x.history (tracked_at g x) s.reached can_before).numbers j
+            (subst (In j) (reads_at g (outset_from stream eof) x.taken (before told f) notes x.history (tracked_at g x) s.reached can_before number_reading) q))

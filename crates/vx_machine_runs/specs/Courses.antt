@@ -1,5 +1,5 @@
 -- Runs of the machine wherever it begins and over whatever sink: one of its own, or one that others use too.
-use Rattle.std.specs.Prelude.{◌≡◌, ◌+◌, ◌%◌, ◌<◌, ℕ, suc, Bool, false, List, [], ◌∷◌, ◌++◌, map, length, Some, None, IsFalse}
+use Rattle.std.specs.Prelude.{◌≡◌, ◌+◌, ◌%◌, ◌<◌, ◌≤◌, ℕ, suc, Bool, true, false, List, [], ◌∷◌, ◌++◌, map, length, Some, None, IsFalse}
 use Rattle.vx_model.specs.ChunkData.{ChunkData}
 use Rattle.vx_path.specs.Lists.{In}
 use Rattle.vx_path.specs.Path.{Eof}
@@ -10,17 +10,22 @@ use Rattle.vx_tasks.specs.Run.{Note, nth, first_pick}
 use Rattle.vx_tasks.specs.Runs.{noted}
 use Rattle.vx_cut_laws.specs.Cut.{cut}
 use Rattle.vx_named_tasks.specs.Names.{Outset, CanBegin}
-use Rattle.vx_plan.specs.PlanData.{Pair}
+use Rattle.vx_layout_spec.specs.LayoutTree.{renamed}
+use Rattle.vx_plan.specs.PlanData.{Pair, Plan}
 use Rattle.vx_plan.specs.Number.{sorted}
 use Rattle.vx_plan.specs.SourcePlan.{start_fault}
+use Rattle.vx_machine_turns.specs.Source.{stream_plan}
 use Rattle.vx_machine_steps.specs.Tree.{counts}
 use Rattle.vx_machine_steps.specs.Runs.{picks_after}
-use Rattle.vx_machine_promises.specs.Write.{Write, Future, Open, Answer, scripts_at, planned_at, taken_by, heard_by, before}
+use Rattle.vx_machine_promises.specs.Write.{Write, Future, Open, Answer, begin_at, scripts_at, planned_at, taken_by, heard_by, before}
 use Rattle.vx_machine_promises.specs.Reached.{ReachedAt}
+use Rattle.vx_machine_state.specs.Acts.{layouts_in}
 use Rattle.vx_machine_state.specs.Reserved.{reserved_by}
 use Rattle.vx_machine_view.specs.Machine.{Machine, start_from, WholeStep, whole_steps, is_finished, machine_ids}
 use Rattle.vx_machine_view.specs.Places.{whole_ready}
 use Rattle.vx_machine_view.specs.Whole.{form_of, outset_from, ShowsMachineAt}
+use Rattle.vx_machine_runs.specs.Ends.{Caused}
+use Rattle.vx_machine_runs.specs.Tracked.{Comes}
 use Rattle.vx_machine_runs.specs.Runs.{Asking, TypedAnswer, BeforeEnd, PickedBy}
 
 -- where a run stands: the machine, the batches that were taken, whether the end is told, what was appended, and the numbers that the
@@ -116,3 +121,41 @@ CourseGoesOn = (g : Write) (stream eof : Eof) (notes : List Note) (x y : Point) 
     → n.picked ≡ first_pick (picks_after (length notes) g.schedule) % n.ready
     → HasComeTo g stream eof (notes ++ (n ∷ [])) y
     × ForFutures (outset_from stream eof) y (λ f. (k : ℕ) × LeavesIn g (outset_from stream eof) notes x (before d.told f) (suc k) × LeavesIn g (outset_from stream eof) (notes ++ (n ∷ [])) y f k)
+
+-- ---- where it has finished
+
+-- All is done, by this plan. The layout's segments have the numbers that their paths were given.
+pub record FinishedBy (p : Plan) (x : Point) : Type 0 where
+  pub heard : x.heard ≡ true
+  pub faultless : p.faults ≡ []
+  pub appended : x.history ≡ sorted p.pairs
+  pub layout : (number : List ℕ → ℕ) → Numbered number x → layouts_in x.machine.root ≡ renamed number p.layout ∷ []
+  pub released : reserved_by x.machine.root ≡ 0
+
+-- that of the batches that were taken, where the machine can begin there with them
+abbrev pub CourseEnds : Type 0
+CourseEnds = (g : Write) (stream eof : Eof) (notes : List Note) (x : Point) → HasComeTo g stream eof notes x → CanBegin (outset_from stream eof) (length x.taken)
+    → is_finished x.machine ≡ true → FinishedBy (stream_plan g.setting g.way g.type g.mark (outset_from stream eof) x.taken true) x
+
+-- ---- causes
+
+-- a ready step there, refused or not, with what the source tells in it
+pub record ChosenAt (g : Write) (x : Point) (told : Answer) (number k : ℕ) (w : WholeStep) : Type 0 where
+  pub place : nth (whole_steps g.setting (machine_ids x.machine) number told x.machine) k ≡ Some w
+  pub asks : Asking x.machine.phase k told
+  pub typed : TypedAnswer g.type told
+  pub once : BeforeEnd x.heard told
+  pub fits : IsFalse w.misfit
+
+-- What it refuses and counts has its cause in the plan of these batches and of those that may still come.
+pub record CausedThere (g : Write) (o : Outset) (notes : List Note) (x : Point) (taken : List ChunkData) (f : Future) (k : ℕ) (w : WholeStep) : Type 0 where
+  pub caused : Caused (planned_at g o taken f) w
+  -- what the tracker would count with it: to that the tasks alone come, and it is at most what the plan reserves
+  pub comes : Comes g (begin_at g o taken f) notes k (tracked_at g x + w.raises)
+  pub within : tracked_at g x + w.raises ≤ g.tracker + (planned_at g o taken f).reserved
+
+-- those taken by then
+abbrev pub CourseHasCause : Type 0
+CourseHasCause = (g : Write) (stream eof : Eof) (notes : List Note) (x : Point) (told : Answer) (number k : ℕ) (w : WholeStep) (f : Future) → HasComeTo g stream eof notes x → ChosenAt g x told number k w
+    → Open (heard_by x.heard told) f → CanBegin (outset_from stream eof) (length (taken_by x.taken told ++ f.later))
+    → CausedThere g (outset_from stream eof) notes x (taken_by x.taken told) f k w

@@ -3,7 +3,7 @@
 #![tactic(auto)]
 
 ghost use Rattle.vx_machine_runs.specs.Runs.{StartIsUnderway, StepIsUnderway, RunByIsUnderway, PlacesArePicks, RunIsUnderway, ScheduleIsFree, NumberIsFree};
-ghost use Rattle.vx_machine_runs.specs.Courses.{CourseIsUnderway, CourseIsReady, CourseIsFront, CourseGoesOn};
+ghost use Rattle.vx_machine_runs.specs.Courses.{CourseIsUnderway, CourseIsReady, CourseIsFront, CourseGoesOn, CourseEnds, CourseHasCause};
 ghost use Rattle.vx_machine_runs.specs.Ends.{StaysReady, EndsWhole, StepsHaveCause};
 ghost use Rattle.vx_machine_runs.specs.Steps.{IdleIsFinished, MisfitIsRead, HistoryIsFront, AppendIsOneMore, PastIsCaused, StartIsCaused, ValidIsSound, ValidStarts};
 ghost use Rattle.vx_machine_runs.specs.Answers.{AskedBeforeEnd, AnswersAreNoted, TakenAreTyped, TakenAreWhole};
@@ -31,6 +31,14 @@ pub fn courses()
     ensures ready { CourseIsReady }
     ensures front { CourseIsFront }
     ensures on { CourseGoesOn }
+{
+    vx_machine_promises::anywhere();
+}
+
+/// Where such a run ends all is written as planned, and what a step of it is refused for has its cause in the plan.
+pub fn course_ends()
+    ensures ends { CourseEnds }
+    ensures causes { CourseHasCause }
 {
     vx_machine_promises::anywhere();
 }

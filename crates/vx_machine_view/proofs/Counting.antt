@@ -16,7 +16,8 @@ use Rattle.vx_zone_spec.specs.ZoneTable.{Filled, kept_columns}
 use Rattle.vx_machine_turns.specs.Locals.{ZonedNode, Local}
 use Rattle.vx_machine_turns.specs.Acts.{Seed, Act, does, numbers_in, gifts, shut}
 use Rattle.vx_machine_turns.specs.Readings.{number_reading}
-use Rattle.vx_machine_turns.specs.Source.{source_seed}
+use Rattle.vx_named_tasks.specs.Names.{Outset}
+use Rattle.vx_machine_turns.specs.Source.{seed_at}
 use Rattle.vx_machine_turns.specs.Fuels.{Fuel, less}
 use Rattle.vx_machine_steps.specs.Tree.{Head, Tree, Leaf, Work, ahead, read}
 use Rattle.vx_machine_steps.specs.Moves.{doing, due_todo, all_paths, all_over}
@@ -32,7 +33,7 @@ use Rattle.vx_machine_view.specs.Deeds.{deed_acts, run_types, Going}
 use Rattle.vx_machine_state.specs.Moves.{Step, all_made, may_act, own_step, in_kids, in_rest, steps}
 use Rattle.vx_machine_view.specs.Shows.{Counted, Stage, waits_first, waits_end, appends, splits, gathers_all, hands, hands_lists, shuts, joins_columns, regroups_rows, regroups_chunks, collects, presses, pressed, lets_out, asks_first, probes, falls_back, cuts, last_cuts, passes_on, passed, records_zones, closes_zones, joins_data, joins_zones, Done, Shows, types_of}
 use Rattle.vx_machine_view.specs.Machine.{Phase, reading, giving, closing, finished, Machine, may_source, WholeStep, source_step, in_root, whole_steps}
-use Rattle.vx_machine_view.specs.Whole.{form_of, phase_acts, source_at, root_depth, ShowsMachine}
+use Rattle.vx_machine_view.specs.Whole.{form_of, phase_acts, source_from, root_depth, ShowsMachineAt}
 use Rattle.vx_machine_view.proofs.Words.{and_left, numbers_in-append}
 use Rattle.vx_machine_view.proofs.Feeding.{count_types}
 use Rattle.vx_machine_view.proofs.Deeding.{types_length, runs_total}
@@ -271,14 +272,15 @@ source_joins a closing root = refl
 source_joins a finished root = refl
 
 -- of the whole machine
-pub whole_joins : (g : Write) (number : List ℕ → ℕ) (next : ℕ) (all : List (List ℕ)) (a : Answer) (f : Future) (m : Machine) (t : Tree) (sh : ShowsMachine g number m f t) → JoinsFree g.setting sh.kids
+pub whole_joins : (g : Write) (o : Outset) (number : List ℕ → ℕ) (next : ℕ) (all : List (List ℕ)) (a : Answer) (f : Future) (m : Machine) (t : Tree) (sh : ShowsMachineAt g o number m f t)
+    → JoinsFree g.setting sh.kids
     → (w : WholeStep) → In w (whole_steps g.setting all next a m) → (n : ℕ) → In n w.joined → (n ≡ 0) ⊎ In n (read g.setting number_reading (depth g) 0 [] t)
-whole_joins g number next all a f m t sh jf w i n k =
+whole_joins g o number next all a f m t sh jf w i n k =
     subst (λ z. (n ≡ 0) ⊎ In n (read g.setting number_reading (depth g) 0 [] z)) (sym sh.tree_is)
     (all_of (in_cases w (cond (may_source m.phase m.root) (source_step a m.phase m.root ∷ []) []) (map (in_root m.phase) (steps g.setting all next m.root)) i))
   where
     src : Head
-    src = source_at g sh.past (phase_acts m.phase f)
+    src = source_from g o sh.past (phase_acts m.phase f)
 
     to_do : List Act
     to_do = ahead g.setting src [] (src.closed || false)
@@ -298,7 +300,7 @@ whole_joins g number next all a f m t sh jf w i n k =
     of_own false x = x
 
     of_root : (x : Step) × In x (steps g.setting all next m.root) × (w ≡ in_root m.phase x) → (n ≡ 0) ⊎ In n kid_list
-    of_root (x, y, e) = joins_counted g.setting number next all (root_depth g) (source_seed (form_of g) g.mark) 0 m.root sh.kids to_do sh.root jf x y n (subst (λ (z : WholeStep). In n z.joined) e k)
+    of_root (x, y, e) = joins_counted g.setting number next all (root_depth g) (seed_at (form_of g) g.mark o) 0 m.root sh.kids to_do sh.root jf x y n (subst (λ (z : WholeStep). In n z.joined) e k)
 
     lift : (n ≡ 0) ⊎ In n kid_list → (n ≡ 0) ⊎ In n (own_list ++ (kid_list ++ rest_list))
     lift (inl e) = inl e

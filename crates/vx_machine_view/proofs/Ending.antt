@@ -7,7 +7,7 @@ use Rattle.vx_path.specs.Path.{Eof}
 use Rattle.vx_named_tasks.specs.Names.{Outset, root_outset}
 use Rattle.vx_plan.specs.PlanData.{Setting}
 use Rattle.vx_machine_turns.specs.Acts.{Seed, Act, shape_in, passes}
-use Rattle.vx_machine_turns.specs.Source.{source_acts, seed_at, source_seed}
+use Rattle.vx_machine_turns.specs.Source.{source_acts, seed_at}
 use Rattle.vx_machine_turns.specs.Readings.{shaped, unread, layout_reading}
 use Rattle.vx_machine_turns.specs.Fuels.{Fuel, spent, fuel, less}
 use Rattle.vx_machine_steps.specs.Tree.{Tree, Leaf, Work, ahead, further, read}
@@ -21,7 +21,7 @@ use Rattle.vx_machine_state.specs.Moves.{is_empty}
 use Rattle.vx_machine_view.specs.Shows.{Stage, Done, Shows, laid, types_of}
 use Rattle.vx_machine_state.specs.Done.{no_more, is_alone, has_layout, is_done}
 use Rattle.vx_machine_view.specs.Machine.{Phase, reading, giving, closing, finished, Machine, has_closed, held_by, phase_ids, machine_ids}
-use Rattle.vx_machine_view.specs.Whole.{SameHeld, ShowsMachineAt, ShowsMachine, form_of, phase_acts, PhaseShape, source_from, source_at, root_depth, HeldShowsAt, FinishShowsAt, LayoutShows}
+use Rattle.vx_machine_view.specs.Whole.{SameHeld, ShowsMachineAt, ShowsMachine, form_of, phase_acts, PhaseShape, source_from, root_depth, HeldShowsAt, FinishShowsAt, LayoutShowsAt}
 use Rattle.vx_machine_view.proofs.Words.{no_cons, left_nil, right_nil, no_firsts, and_left, and_right}
 use Rattle.vx_machine_view.proofs.Feeding.{count_types}
 use Rattle.vx_machine_view.proofs.Joining.{Busy, Passed, stage_parts, done_over, and_last, made_is, AllLaid, laid_all}
@@ -179,14 +179,14 @@ read_laid s d j (Work h ks r) o =
     ∙ ap (λ z. shaped (shape_in h.past) z ++ read s layout_reading d (suc j) [] r) (read_laid s (less d h.seed.type) 0 ks k.2)
     ∙ ap (λ z. shaped (shape_in h.past) (laid ks) ++ z) (read_laid s d (suc j) r (and_right (is_nil h.todo && h.over && all_over ks) (all_over r) o))
 
-pub layout_shows : LayoutShows
-layout_shows g number f m t st w over =
+pub layout_shows_at : (o : Outset) → LayoutShowsAt o
+layout_shows_at o g number f m t st w over =
     let k : (has_closed m.phase && all_over w.kids) ≡ true = sym (whole_over m.phase f (all_over w.kids)) ∙ sym (ap all_over w.tree_is) ∙ over in
     let made_all : all_over w.kids ≡ true = and_right (has_closed m.phase) (all_over w.kids) k in
-    let none : all_paths w.kids ≡ [] = right_nil (holding (source_at g w.past (phase_acts m.phase f))) (all_paths w.kids)
-    (left_nil (holding (source_at g w.past (phase_acts m.phase f)) ++ all_paths w.kids) [] (sym (ap all_paths w.tree_is) ∙ end_is_free g.setting (depth g) t st over)) in
-    let there : AllLaid g.setting number m.root w.kids = laid_all g.setting number (root_depth g) (source_seed (form_of g) g.mark) 0 m.root w.kids w.root
-    (made_is g.setting number (root_depth g) (source_seed (form_of g) g.mark) 0 m.root w.kids w.root ∙ made_all) none in
+    let none : all_paths w.kids ≡ [] = right_nil (holding (source_from g o w.past (phase_acts m.phase f))) (all_paths w.kids)
+    (left_nil (holding (source_from g o w.past (phase_acts m.phase f)) ++ all_paths w.kids) [] (sym (ap all_paths w.tree_is) ∙ end_is_free g.setting (depth g) t st over)) in
+    let there : AllLaid g.setting number m.root w.kids = laid_all g.setting number (root_depth g) (seed_at (form_of g) g.mark o) 0 m.root w.kids w.root
+    (made_is g.setting number (root_depth g) (seed_at (form_of g) g.mark o) 0 m.root w.kids w.root ∙ made_all) none in
     there.layouts
     ∙ ap (map (renamed number)) (sym (append-nil (laid w.kids)) ∙ ap (λ z. shaped z (laid w.kids) ++ []) (sym (ended m.phase w.shape (and_left (has_closed m.phase) (all_over w.kids) k)))
     ∙ ap laid (sym w.tree_is) ∙ sym (read_laid g.setting (depth g) 0 t over))
@@ -196,3 +196,6 @@ layout_shows g number f m t st w over =
     ended (giving e i) h c = cc
     ended closing h c = h
     ended finished h c = h
+
+pub layout_shows : LayoutShowsAt root_outset
+layout_shows = layout_shows_at root_outset

@@ -14,6 +14,7 @@ use Rattle.vx_plan.specs.SourcePlan.{source_plan}
 use Rattle.vx_plan.proofs.Numbering.{in_paths, clash}
 use Rattle.vx_plan.proofs.Fronts.{scattered_sorted}
 use Rattle.vx_plan.proofs.SourceLaws.{paths_distinct}
+use Rattle.vx_named_tasks.specs.Names.{root_outset}
 use Rattle.vx_machine_turns.specs.Acts.{refuses, written_by}
 use Rattle.vx_machine_turns.specs.Readings.{number_reading}
 use Rattle.vx_machine_steps.specs.Tree.{Tree, read}
@@ -171,7 +172,7 @@ write_ends g first taken f seen history tracker r m sh done =
 
 pub write_joins : WriteJoins
 write_joins g first taken a f seen history tracker r m k w sh at n i =
-    by (whole_joins g (number_of (planned g taken f).pairs first) (first + length history) (machine_ids m) a f m r.tree sh
+    by (whole_joins g root_outset (number_of (planned g taken f).pairs first) (first + length history) (machine_ids m) a f m r.tree sh
     (free_below g m f sh.past sh.kids r.tree sh.tree_is (stands g taken f seen history tracker r)) w (nth_in (ready_steps g first history a m) k w at) n i)
   where
     by : (n ≡ 0) ⊎ In n (read g.setting number_reading (depth g) 0 [] r.tree) → (n ≡ 0) ⊎ In n (planned g taken f).numbers

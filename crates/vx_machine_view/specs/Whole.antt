@@ -152,8 +152,8 @@ abbrev pub FinishShowsAt : Outset → Type 0
 FinishShowsAt o = (g : Write) (number : List ℕ → ℕ) (f : Future) (m : Machine) (t : Tree) → Stands g.setting (depth g) t → ShowsMachineAt g o number m f t → is_finished m ≡ all_over t
 
 -- the layout that is made is the one that is read off the state
-abbrev pub LayoutShows : Type 0
-LayoutShows = (g : Write) (number : List ℕ → ℕ) (f : Future) (m : Machine) (t : Tree) → Stands g.setting (depth g) t → ShowsMachine g number m f t → IsTrue (all_over t)
+abbrev pub LayoutShowsAt : Outset → Type 0
+LayoutShowsAt o = (g : Write) (number : List ℕ → ℕ) (f : Future) (m : Machine) (t : Tree) → Stands g.setting (depth g) t → ShowsMachineAt g o number m f t → IsTrue (all_over t)
     → layouts_in m.root ≡ map (renamed number) (read g.setting layout_reading (depth g) 0 [] t)
 
 -- ---- chunks

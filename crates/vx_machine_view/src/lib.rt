@@ -11,7 +11,7 @@ ghost use Rattle.vx_machine_view.specs.Places.{WholeIsReady, SourcePlace, RootPl
 ghost use Rattle.vx_machine_view.specs.Underway.{ReachedStands, AppendIsNext, WriteMoves, WriteSteps, WriteReady, WriteEnds, WriteJoins};
 ghost use Rattle.vx_named_tasks.specs.Names.{Outset};
 ghost use Rattle.vx_path.specs.Path.{Eof};
-ghost use Rattle.vx_machine_view.specs.Whole.{StartShowsAt, StepShowsAt, ReadyShowsAt, HeldShowsAt, FinishShowsAt, LayoutShows, SoundIsTyped, LeastAgrees};
+ghost use Rattle.vx_machine_view.specs.Whole.{StartShowsAt, StepShowsAt, ReadyShowsAt, HeldShowsAt, FinishShowsAt, LayoutShowsAt, SoundIsTyped, LeastAgrees};
 
 /// What tasks can do is what the abstract ones can, and after it they show the state after it.
 pub fn tasks()
@@ -36,7 +36,7 @@ pub fn steps()
 pub fn ends()
     ensures held { (o : Outset) → HeldShowsAt o }
     ensures finish { (o : Outset) → FinishShowsAt o }
-    ensures layout { LayoutShows }
+    ensures layout { (o : Outset) → LayoutShowsAt o }
 {}
 
 /// What tasks have reserved in the tracker: each step changes it by what it adds to the tracker and takes from it.

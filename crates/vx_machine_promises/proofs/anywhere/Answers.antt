@@ -1,5 +1,8 @@
 use Rattle.vx_machine_promises.proofs.Standing.{state_stands_at, something_is_ready_at, work_falls_at, history_is_first_at, paths_are_apart_at}
 use Rattle.vx_machine_promises.proofs.Stepping.{start_is_reached_at, step_is_reached_at}
+use Rattle.vx_machine_promises.proofs.Ending.{end_is_planned_at}
+use Rattle.vx_machine_promises.proofs.Causing.{refusals_have_cause_at, moves_are_counted_at}
+use Rattle.vx_machine_promises.proofs.Fitting.{valid_is_sound_at}
 use Rattle.vx_machine_promises.proofs.anywhere.Goals as goal
 
 pub returns-clause-start : goal.returns-clause-start
@@ -22,3 +25,15 @@ returns-clause-front c = history_is_first_at
 
 pub returns-clause-apart : goal.returns-clause-apart
 returns-clause-apart c = paths_are_apart_at
+
+pub returns-clause-ends : goal.returns-clause-ends
+returns-clause-ends c = end_is_planned_at
+
+pub returns-clause-refusals : goal.returns-clause-refusals
+returns-clause-refusals c = refusals_have_cause_at
+
+pub returns-clause-moves : goal.returns-clause-moves
+returns-clause-moves c = moves_are_counted_at
+
+pub returns-clause-sound : goal.returns-clause-sound
+returns-clause-sound c = valid_is_sound_at
