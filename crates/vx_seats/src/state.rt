@@ -41,6 +41,7 @@ pub struct SinkState<S: SegmentSink, W: Ledger, F: Ledger, M: Ledger, N: Ledger,
     pub ghost counted: { length history.items ≡ writes.total },
     pub ghost rises: { P.faults ≤ S.faults sink },
     pub ghost failed: { 0 < faults.total → Rose P.faults (S.faults sink) },
+    pub ghost quiet: { faults.total ≡ 0 → S.faults sink ≡ P.faults },
     pub ghost never_fails: { NeverFails P.may_fail → NeverFails (S.may_fail sink) },
     pub ghost could_fail: { 0 < faults.total → ¬ NeverFails P.may_fail },
     pub ghost borrowed: { S.borrow sink ≡ P.borrow },
@@ -223,6 +224,7 @@ impl<S: SegmentSink, W: Ledger, F: Ledger, M: Ledger, N: Ledger, P: Pairs> SinkS
                 Ok(Turn::Written(Receipt { path: told, number }))
             }
             Err(SinkError::Failed) => {
+                self.faults.audit(&mut seat.faults);
                 self.faults.add(&mut seat.faults, unless(seat.faulted));
                 seat.faulted = true;
                 Err(OrderError::SinkFault)
@@ -277,6 +279,7 @@ impl<S: SegmentSink, W: Ledger, F: Ledger, M: Ledger, N: Ledger, P: Pairs> SinkS
         ensures all { 0 < vec_len seats → vec_len seats ≡ W.parts → length result.1.items ≡ sum_by (λ s. s.writes.amount) seats.items }
         ensures some { sum_by (λ s. s.writes.amount) seats.items ≤ length result.1.items }
         ensures faults { 0 < sum_by (λ s. s.faults.amount) seats.items → Rose P.faults (S.faults result.0) }
+        ensures quiet { 0 < vec_len seats → vec_len seats ≡ F.parts → sum_by (λ s. s.faults.amount) seats.items ≡ 0 → S.faults result.0 ≡ P.faults }
         ensures could_fail { 0 < sum_by (λ s. s.faults.amount) seats.items → ¬ NeverFails P.may_fail }
         ensures stops { vec_len seats ≡ M.parts → 0 < sum_by (λ s. s.seen.amount) seats.items → 0 < sum_by (λ s. s.made.amount) seats.items }
     {

@@ -123,6 +123,7 @@ impl<S: SegmentSink, W: Ledger, F: Ledger, M: Ledger, N: Ledger, P: Pairs> Order
         ensures whole { 0 < vec_len seats → vec_len seats ≡ W.parts → sum_by (λ s. s.writes.amount) seats.items ≡ length P.pairs
             → paths result.1.items ≡ sort (map (λ c. c.path) P.pairs) }
         ensures faults { 0 < sum_by (λ s. s.faults.amount) seats.items → Rose P.faults (S.faults result.0) }
+        ensures quiet { 0 < vec_len seats → vec_len seats ≡ F.parts → sum_by (λ s. s.faults.amount) seats.items ≡ 0 → S.faults result.0 ≡ P.faults }
         ensures could_fail { 0 < sum_by (λ s. s.faults.amount) seats.items → ¬ NeverFails P.may_fail }
         ensures stops { vec_len seats ≡ M.parts → 0 < sum_by (λ s. s.seen.amount) seats.items → 0 < sum_by (λ s. s.made.amount) seats.items }
     {
