@@ -5,8 +5,9 @@ ghost use Rattle.std.specs.FinMap as fin;
 ghost use Rattle.std.specs.Arc.{arc_value};
 ghost use Rattle.vx_model.specs.TyView.{ty};
 ghost use Rattle.vx_kept.specs.Kept.{Fresh, Knows};
+ghost use Rattle.vx_kept.specs.Props.{knows_prop};
 ghost use Rattle.vx_layout_tree.specs.LayoutView.{layout_data};
-ghost use Rattle.vx_machine_ids.specs.Stock.{none, both, end_stock, ok_stock};
+ghost use Rattle.vx_machine_ids.specs.Stock.{none, both, end_stock, ok_stock, one as one_if};
 ghost use Rattle.vx_machine_ids.specs.Balance.{Owned, Moved, Exact, IsNone};
 ghost use Rattle.vx_machine_state.specs.State.{no_tasks};
 ghost use Rattle.vx_machine_state.specs.Start.{first_indices};
@@ -22,8 +23,8 @@ ghost use Rattle.vx_machine_node.specs.Causes.{StartMay};
 ghost use Rattle.vx_machine_node.specs.Context.{setting_of};
 ghost use Rattle.vx_machine_node.specs.Outcome.{Kept};
 ghost use Rattle.vx_machine_tasks.specs.Pairs.{task_pairs, AllMay};
-ghost use Rattle.vx_machine_task.specs.Ready.{is_done as is_done_task, counted};
-ghost use Rattle.vx_machine.specs.Source.{SourceMay};
+ghost use Rattle.vx_machine_task.specs.Ready.{is_done as is_done_task, counted, ready_in};
+ghost use Rattle.vx_machine.specs.Source.{SourceMay, phase_stock};
 ghost use Rattle.vx_machine.specs.SourceActs.{SourceActed, SourceRefused};
 ghost use Rattle.vx_machine_tasks.specs.Starting.{IsAllowed, Counted, Started, FormRefused};
 ghost use Rattle.vx_machine.specs.Starting.{machine_at};
@@ -53,13 +54,17 @@ use vx_sink::{BatchSource, CompressorPlugin, LayoutWriterContext};
 use vx_strategy::Strategy;
 use vx_write_answer::{ActionKind, Step, WriteError};
 
-/// Tasks that write a stream of batches: the source's, named `[0]`, and those of nodes, of which the root's is named `[1]`.
+/// Tasks that write a stream of batches: the source's, named `[0]`, and those of nodes, of which the root's is named `[1]`; and
+/// how many are ready, as was counted last. These counts are right, whatever the order holds, but for the tasks that are to be
+/// counted anew.
 ///
 /// A machine must be spent, by `finish` or `refuse`.
 pub struct Machine {
     pub(crate) alloc: Global,
-    phase: Phase,
-    root: Task,
+    pub(crate) phase: Phase,
+    pub(crate) root: Task,
+    pub(crate) counts: Counts,
+    ghost known: { Knows counts (row (out-Task root).kids.items) } by { knows_prop counts (row (out-Task root).kids.items) },
 }
 
 /// What the root starts with.
@@ -110,6 +115,44 @@ fn has_closed(phase: &Phase) -> bool
     }
 }
 
+fn source_may(phase: &Phase, root: &Task) -> bool
+    ensures { result ≡ may_act phase.now root.now }
+{
+    match phase {
+        Phase::Reading(_) | Phase::Closing => true,
+        Phase::Giving(_, _) => root.head.inbox.len() < root.head.places,
+        Phase::Finished => false,
+    }
+}
+
+/// How many tasks are ready, where counts are kept of the root's children. It counts anew what they ask for. Where 2^64 - 1
+/// or more are below the source, no memory holds them, and it runs out here.
+pub(crate) fn count_ready<O: Order>(
+    alloc: Global,
+    phase: &Phase,
+    root: &Task,
+    order: &O,
+    counts: &mut Counts,
+) -> Result<u64, AllocError>
+    requires owned { Owned (O.active order.now) (both (phase_stock phase.now) (task_stock root.now)) }
+    requires known { Knows counts.old (row (out-Task root.now).kids.items) }
+    ensures told { IfOk result (λ n. n ≡ one_if (may_act phase.now root.now) + ready_in (O.active order.now) root.now) }
+    ensures fresh { OnOk result (Fresh (fin.keys (O.active order.now)) counts.new (row (out-Task root.now).kids.items)) }
+    ensures known { Knows counts.new (row (out-Task root.now).kids.items) }
+{
+    let below = match root.count_ready(alloc, order, counts) {
+        Ok(below) => below,
+        Err(error) => {
+            *counts = Counts::new(alloc);
+            return Err(error);
+        }
+    };
+    if below == u64::MAX {
+        return Err(AllocError);
+    }
+    Ok(one(source_may(phase, root)) + below)
+}
+
 fn set_phase(phase: &mut Phase, new: Phase)
     requires { phase.old ≡ Phase.Finished }
     ensures { phase.new ≡ new }
@@ -152,21 +195,12 @@ impl Machine {
                 alloc,
                 phase: Phase::Reading(stream),
                 root,
+                counts: Counts::new(alloc),
             }),
             Err(error) => {
                 give_up_pointer(order, stream);
                 Err(error)
             }
-        }
-    }
-
-    fn source_may(&self) -> bool
-        ensures { result ≡ may_act self.now.phase self.now.root }
-    {
-        match &self.phase {
-            Phase::Reading(_) | Phase::Closing => true,
-            Phase::Giving(_, _) => self.root.head.inbox.len() < self.root.head.places,
-            Phase::Finished => false,
         }
     }
 
@@ -181,27 +215,8 @@ impl Machine {
         ensures front { IsFront (machine_of self.now) }
     {
         vx_machine_runs::courses();
-        let own = one(self.source_may());
+        let own = one(source_may(&self.phase, &self.root));
         own.saturating_add(self.root.ready(order))
-    }
-
-    /// How many tasks are ready, where counts are kept of the root's children. It counts anew what they ask for. Where 2^64 - 1
-    /// or more are below the source, no memory holds them, and it runs out here.
-    pub(crate) fn count_ready<O: Order>(
-        &self,
-        order: &O,
-        counts: &mut Counts,
-    ) -> Result<u64, AllocError>
-        requires owned { Owned (O.active order.now) (machine_stock self.now) }
-        requires known { Knows counts.old (row (out-Task self.now.root).kids.items) }
-        ensures told { IfOk result (λ n. n ≡ machine_ready (O.active order.now) self.now) }
-        ensures fresh { OnOk result (Fresh (fin.keys (O.active order.now)) counts.new (row (out-Task self.now.root).kids.items)) }
-    {
-        let below = self.root.count_ready(self.alloc, order, counts)?;
-        if below == u64::MAX {
-            return Err(AllocError);
-        }
-        Ok(one(self.source_may()) + below)
     }
 
     /// The source's next act.
@@ -227,10 +242,13 @@ impl Machine {
         let phase = mem::replace(&mut self.phase, Phase::Finished);
         let (phase, result) = act_source(order, source, phase, &mut self.root);
         set_phase(&mut self.phase, phase);
+        if let Err(_) = result {
+            self.counts = Counts::new(self.alloc);
+        }
         result
     }
 
-    /// A step where so many are ready, by counts that are kept.
+    /// A step where so many are ready, by counts that were just counted anew.
     pub(crate) fn step_counted<B: BatchSource, O: Order, C: CompressorPlugin>(
         &mut self,
         ready: u64,
@@ -239,13 +257,12 @@ impl Machine {
         source: &mut B,
         order: &mut O,
         compressor: &mut C,
-        counts: &mut Counts,
     ) -> Result<Step, WriteError>
         requires owned { Owned (O.active order.old) (machine_stock self.old) }
         requires reserved { machine_reserved self.old ≤ counted_bytes ctx.old }
         requires ready { 0 < machine_ready (O.active order.old) self.old }
         requires count { ready ≡ machine_ready (O.active order.old) self.old }
-        requires fresh { Fresh (fin.keys (O.active order.old)) counts.old (row (out-Task self.old.root).kids.items) }
+        requires fresh { Fresh (fin.keys (O.active order.old)) self.old.counts (row (out-Task self.old.root).kids.items) }
         requires allowed { AllMay (O.may_write order.old) (task_pairs self.old.root) }
         ensures moved { Moved (O.active order.old) (O.active order.new) (machine_stock self.old) (machine_stock self.new) }
         ensures tracked { Paid ctx.old ctx.new (machine_reserved self.old) (machine_reserved self.new) }
@@ -270,11 +287,10 @@ impl Machine {
         ensures kept { OnErr result (Kept (O.outlet order.old) (O.outlet order.new)) }
         ensures context { told_by ctx.new ≡ told_by ctx.old }
         ensures compressor { C.kind compressor.new ≡ C.kind compressor.old }
-        ensures known { OnOk result (Knows counts.new (row (out-Task self.new.root).kids.items)) }
     {
         vx_machine_runs::courses();
         let picked = pick % ready;
-        let own = one(self.source_may());
+        let own = one(source_may(&self.phase, &self.root));
         if picked < own {
             let task = Path::child(self.alloc, &[], 0)?;
             return match self.step_source(source, order) {
@@ -295,7 +311,7 @@ impl Machine {
             order,
             compressor,
             place,
-            counts,
+            &mut self.counts,
         ) {
             Ok(did) => Ok(Step {
                 ready,
@@ -303,7 +319,10 @@ impl Machine {
                 task: did.task,
                 action: did.action,
             }),
-            Err(error) => Err(error),
+            Err(error) => {
+                self.counts = Counts::new(self.alloc);
+                Err(error)
+            }
         }
     }
 
@@ -349,11 +368,16 @@ impl Machine {
         ensures context { told_by ctx.new ≡ told_by ctx.old }
         ensures compressor { C.kind compressor.new ≡ C.kind compressor.old }
     {
-        let mut counts = Counts::new(self.alloc);
-        let Ok(ready) = self.count_ready(order, &mut counts) else {
+        let Ok(ready) = count_ready(
+            self.alloc,
+            &self.phase,
+            &self.root,
+            order,
+            &mut self.counts,
+        ) else {
             return Err(WriteError::OutOfMemory);
         };
-        self.step_counted(ready, pick, ctx, source, order, compressor, &mut counts)
+        self.step_counted(ready, pick, ctx, source, order, compressor)
     }
 
     /// Whether the root's layout is there, and nothing is left to do.
@@ -376,7 +400,9 @@ impl Machine {
             alloc: _,
             phase,
             root,
+            counts,
         } = self;
+        drop(counts);
         let layout = root.into_layout();
         match phase {
             Phase::Finished => layout,
@@ -400,7 +426,9 @@ impl Machine {
             alloc: _,
             phase,
             root,
+            counts,
         } = self;
+        drop(counts);
         give_up_phase(order, phase);
         root.refuse(ctx, order);
     }

@@ -12,8 +12,7 @@ ghost use Rattle.vx_sink.specs.ContextView.{counted};
 ghost use Rattle.vx_machine_node.specs.Ledger.{told_by};
 ghost use Rattle.vx_machine.specs.Whole.{machine_stock, machine_reserved, StepMay};
 
-use crate::machine::Machine;
-use vx_kept::Counts;
+use crate::machine::{Machine, count_ready};
 use vx_layout_tree::Layout;
 use vx_order::Order;
 use vx_sink::{BatchSource, CompressorPlugin, LayoutWriterContext};
@@ -66,12 +65,17 @@ pub fn run<B: BatchSource, O: Order, C: CompressorPlugin>(
     ensures context { told_by ctx.new ≡ told_by ctx.old }
     ensures compressor { C.kind compressor.new ≡ C.kind compressor.old }
 {
-    let mut counts = Counts::new(machine.alloc);
     'steps: loop {
         if machine.finished() {
             return Ok(Some(machine.finish()));
         }
-        let Ok(ready) = machine.count_ready(order, &mut counts) else {
+        let Ok(ready) = count_ready(
+            machine.alloc,
+            &machine.phase,
+            &machine.root,
+            order,
+            &mut machine.counts,
+        ) else {
             machine.refuse(ctx, order);
             return Err(WriteError::OutOfMemory);
         };
@@ -84,7 +88,7 @@ pub fn run<B: BatchSource, O: Order, C: CompressorPlugin>(
             return Err(WriteError::OutOfMemory);
         }
         let pick = pick_at(schedule, trace.len());
-        match machine.step_counted(ready, pick, ctx, source, order, compressor, &mut counts) {
+        match machine.step_counted(ready, pick, ctx, source, order, compressor) {
             Ok(step) => trace.push_reserved(step),
             Err(error) => {
                 machine.refuse(ctx, order);

@@ -17,9 +17,7 @@ use Rattle.vx_machine_node.specs.Context.{setting_of}
 use Rattle.vx_machine_node.specs.Outcome.{Kept}
 use Rattle.vx_sink.specs.ContextView.{counted as counted_bytes}
 use Rattle.vx_machine.specs.Run.{at, Ran, picked_at, tracker_by}
-use Rattle.vx_machine_task.specs.View.{row}
 use Rattle.vx_machine.specs.View.{phase_of, machine_of}
-use Rattle.vx_machine_task.specs.declared.task.Task.{out-Task}
 use Rattle.vx_machine.specs.Whole.{machine_ready}
 use Rattle.vx_machine.proofs.HeldViews.{exact_then}
 use Rattle.vx_machine.proofs.RunCalls.{Answered, none_called, then_answered, reads_once, appends_once, calls_once, reads_more, appends_more, calls_more, ended, source_ends, sink_ends, press_ends, misfit_passed}
@@ -38,7 +36,6 @@ steps-init g c = record {
   pressed = λ e. subst (λ ts. Answered g.C.Fallible.faults g.C.Fallible.may_fail g.C.Fallible.must_fail c.args.compressor.now c.args.compressor.now (calls_in ts)) (sym e) (none_called g.C.Fallible.faults g.C.Fallible.may_fail g.C.Fallible.must_fail c.args.compressor.now);
   tracked = omega (arith, c.requires.unreserved);
   context = refl;
-  known = c.new-counts.ensures (row (out-Task c.args.machine.root).kids.items);
   compressor = refl;
   ran = λ e x.
       subst (λ ts. Ran c.args.ctx.now (g.C.CompressorPlugin.image (g.C.CompressorPlugin.kind c.args.compressor.now)) (g.B.BatchSource.kind c.args.source.now) c.args.schedule.now 0 (at (machine_of c.args.machine) (g.B.BatchSource.to_come c.args.source.now) (g.O.Order.outlet c.args.order.now)) ts
@@ -84,7 +81,6 @@ steps-preserved g c =
           (calls_once c.in-Ok-step_counted.step.action) c.in-Ok-step_counted.ensures.pressed;
       tracked = omega (arith, c.step_counted.ensures.tracked, c.steps.invariant.tracked);
       context = c.step_counted.ensures.context ∙ c.steps.invariant.context;
-      known = c.in-Ok-step_counted.ensures.known;
       compressor = c.step_counted.ensures.compressor ∙ c.steps.invariant.compressor;
       ran = λ e x.
           let k : Exact u (machine_stock c.steps.machine) = exact_then (g.O.Order.active c.args.order.now) u (machine_stock c.args.machine) (machine_stock c.steps.machine) x c.steps.invariant.moved in

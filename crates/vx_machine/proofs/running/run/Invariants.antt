@@ -2,9 +2,6 @@ use Rattle.std.proofs.Common.{◌≡◌, ◌+◌, vec_len, ◌-◌, ◌^◌, []}
 use Rattle.vx_machine_ids.specs.Balance.{Owned, Moved, Exact}
 use Rattle.vx_machine.specs.Calls.{reads_in, appends_in, calls_in}
 use Rattle.vx_machine.specs.Run.{at, Ran}
-use Rattle.vx_kept.specs.Kept.{Knows}
-use Rattle.vx_machine_task.specs.declared.task.Task.{out-Task}
-use Rattle.vx_machine_task.specs.View.{row}
 use Rattle.vx_machine.specs.View.{machine_of}
 use Rattle.vx_sink.specs.ContextView.{counted}
 use Rattle.vx_machine_node.specs.Ledger.{told_by}
@@ -22,7 +19,6 @@ invariant-steps g l = record {
   pressed : l.initial.trace.items ≡ [] → Answered g.C.Fallible.faults g.C.Fallible.may_fail g.C.Fallible.must_fail l.initial.compressor l.compressor (calls_in l.trace.items);
   tracked : counted l.ctx ≡ counted l.initial.ctx + machine_reserved l.machine;
   context : told_by l.ctx ≡ told_by l.initial.ctx;
-  known : Knows l.counts (row (out-Task l.machine.root).kids.items);
   compressor : g.C.CompressorPlugin.kind l.compressor ≡ g.C.CompressorPlugin.kind l.initial.compressor;
   ran : l.initial.trace.items ≡ [] → Exact (g.O.Order.active l.initial.order) (machine_stock l.initial.machine)
       → Ran l.initial.ctx (g.C.CompressorPlugin.image (g.C.CompressorPlugin.kind l.initial.compressor)) (g.B.BatchSource.kind l.initial.source) l.schedule 0 (at (machine_of l.initial.machine) (g.B.BatchSource.to_come l.initial.source) (g.O.Order.outlet l.initial.order)) l.trace.items

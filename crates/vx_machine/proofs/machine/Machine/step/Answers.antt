@@ -2,16 +2,11 @@ use Rattle.std.proofs.Common.{inl, refl}
 use Rattle.vx_machine_ids.proofs.MoveLaws.{moved_none}
 use Rattle.vx_sink.specs.ContextView.{counted}
 use Rattle.vx_machine_node.specs.Context.{setting_of}
-use Rattle.vx_machine_task.specs.View.{row}
 use Rattle.vx_machine.specs.Whole.{machine_stock}
-use Rattle.vx_machine_task.specs.declared.task.Task.{out-Task}
 use Rattle.vx_machine_nodes.proofs.WriteSteps.{kept_same}
 use Rattle.vx_machine_nodes.proofs.CallSteps.{unasked_self}
 use Rattle.vx_machine.proofs.Remembering.{memory_first}
 use Rattle.vx_machine.proofs.machine.Machine.step.Goals as goal
-
-pub count_ready-requires-clause-known : goal.count_ready-requires-clause-known
-count_ready-requires-clause-known g c = c.new-counts.ensures (row (out-Task c.args.self.now.root).kids.items)
 
 pub returns-in_default-clause-moved : goal.returns-in_default-clause-moved
 returns-in_default-clause-moved g c = moved_none (g.O.Order.active c.args.order.now) (machine_stock c.args.self.now) c.requires.owned

@@ -14,7 +14,7 @@ use Rattle.vx_machine_state.specs.Places.{one_if}
 use Rattle.vx_machine.specs.Calls.{reads_at}
 use Rattle.vx_sink.specs.ContextView.{counted as counted_bytes}
 use Rattle.vx_machine_node.specs.Context.{setting_of}
-use Rattle.vx_machine_task.specs.View.{task_row, row}
+use Rattle.vx_machine_task.specs.View.{task_row}
 use Rattle.vx_machine.specs.View.{phase_of, machine_of}
 use Rattle.vx_machine.proofs.Coming.{steps_on}
 use Rattle.vx_machine.proofs.ReadyViews.{own_source, behind_source}
@@ -23,10 +23,6 @@ use Rattle.vx_machine_nodes.proofs.WriteSteps.{kept_same}
 use Rattle.vx_machine.proofs.ActCauses.{act_step, source_step, act_elsewhere}
 use Rattle.vx_machine_nodes.proofs.CallSteps.{unasked_self}
 use Rattle.vx_machine.proofs.CallSteps.{stops_as, source_quiet, source_act, source_appends, source_unpressed, none_pressed, source_calls, task_reads, task_stops, reads_behind, none_fewer}
-use Rattle.vx_kept.specs.Kept.{Knows, asked_of, ready_of, kids_of}
-use Rattle.vx_kept.proofs.Asking.{fresh_knows}
-use Rattle.vx_machine_task.specs.declared.task.Task.{out-Task}
-use Rattle.vx_machine.proofs.Counting.{source_keeps}
 use Rattle.vx_machine.proofs.machine.Machine.step_counted.Goals as goal
 
 pub nonzero_rem-picked : goal.nonzero_rem-picked
@@ -230,14 +226,3 @@ returns-in-Ok-clause-tracked g c = omega (arith, c.step_source.ensures.reserved)
 
 pub returns-in-Err-clause-tracked : goal.returns-in-Err-clause-tracked
 returns-in-Err-clause-tracked g c = omega (arith, c.step_source.ensures.reserved)
-
--- ---- what is kept
-
-pub returns-in-Ok-clause-known : goal.returns-in-Ok-clause-known
-returns-in-Ok-clause-known g c =
-    let m = c.args.self.now in
-    let n = c.step_source.new.self in
-    let x = c.args.counts.now in
-    subst (λ z. Knows x z)
-    (source_keeps (g.B.BatchSource.kind c.args.source.now) (g.B.BatchSource.to_come c.args.source.now) (g.B.BatchSource.to_come c.step_source.new.source) (phase_of m.phase) (phase_of n.phase) m.root n.root c.in-Ok.action c.in-Ok.ensures.done)
-    (fresh_knows (fin.keys (g.O.Order.active c.args.order.now)) (asked_of x) 0 (ready_of x) (kids_of x) (row (out-Task m.root).kids.items) c.requires.fresh)

@@ -34,3 +34,7 @@ pub returns-clause-told : goal.returns-clause-told
 returns-clause-told g c =
     told_as g.B.Fallible.faults g.B.Fallible.may_fail g.B.Fallible.must_fail c.args.source.now c.act_source-phase.new.source (reads_at (phase_of c.replace-phase.result) 0) (reads_at (phase_of c.args.self.now.phase) 0) c.act_source-phase.result.1
     (ap (λ p. reads_at (phase_of p) 0) (sym c.replace-phase.ensures.value)) c.act_source-phase.ensures.told
+
+-- what is kept
+pub returns-known : goal.returns-known
+returns-known g c = ?
