@@ -10,7 +10,7 @@ use std::alloc::Global;
 use vx_sequence::{SequenceError, SequenceId, SequencePointer, Universe};
 
 /// The id of the pointer's path; the pointer goes on.
-fn take_id(
+pub(crate) fn take_id(
     universe: &mut Universe,
     pointer: &mut SequencePointer,
 ) -> Result<SequenceId, SequenceError>
