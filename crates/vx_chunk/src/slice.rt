@@ -52,8 +52,8 @@ fn cut_node(node: &Node, alloc: Global, from: u64, to: u64) -> Result<Node, Allo
 {
     match node {
         Node::Plain { dtype, cells } => Ok(Node::Plain {
-            cells: copy_cells(alloc, &cells[from as usize..to as usize])?,
             dtype: dtype.clone()?,
+            cells: copy_cells(alloc, &cells[from as usize..to as usize])?,
         }),
         Node::Constant { dtype, cell, .. } => Ok(Node::Constant {
             cell: cell.clone()?,
@@ -65,8 +65,8 @@ fn cut_node(node: &Node, alloc: Global, from: u64, to: u64) -> Result<Node, Allo
             values: Box::new(alloc, (**values).clone()?)?,
         }),
         Node::Chunked { dtype, parts } => Ok(Node::Chunked {
-            parts: cut_parts(parts, alloc, from, to)?,
             dtype: dtype.clone()?,
+            parts: cut_parts(parts, alloc, from, to)?,
         }),
         Node::List {
             dtype,
@@ -89,14 +89,14 @@ fn cut_node(node: &Node, alloc: Global, from: u64, to: u64) -> Result<Node, Allo
             valid,
             ..
         } => Ok(Node::Struct {
-            fields: cut_each(fields, alloc, from, to)?,
-            valid: Vec::from_slice(alloc, flags_between(valid, from, to))?,
             rows: to - from,
             dtype: dtype.clone()?,
+            valid: Vec::from_slice(alloc, flags_between(valid, from, to))?,
+            fields: cut_each(fields, alloc, from, to)?,
         }),
         Node::Extension { dtype, storage } => Ok(Node::Extension {
-            storage: Box::new(alloc, cut(storage, alloc, from, to)?)?,
             dtype: dtype.clone()?,
+            storage: Box::new(alloc, cut(storage, alloc, from, to)?)?,
         }),
     }
 }
@@ -117,10 +117,10 @@ fn cut_list(
     let first = offsets[0];
     let last = offsets[offsets.len() - 1];
     Ok(Node::List {
-        elements: Box::new(alloc, cut(elements, alloc, first, last)?)?,
-        offsets: rebase(alloc, offsets)?,
-        valid: Vec::from_slice(alloc, valid)?,
         dtype: dtype.clone()?,
+        valid: Vec::from_slice(alloc, valid)?,
+        offsets: rebase(alloc, offsets)?,
+        elements: Box::new(alloc, cut(elements, alloc, first, last)?)?,
     })
 }
 

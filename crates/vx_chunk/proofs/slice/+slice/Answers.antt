@@ -55,7 +55,7 @@ cut_node-cut_list-requires t c =
 
 pub cut_node-cut_each-requires : goal.cut_node-cut_each-requires
 cut_node-cut_each-requires t c =
-    (search rules, (c.requires.order, rw c.deref-in-Struct.ensures.value (fields_have c.args.node.now c.in-Struct.dtype c.in-Struct.fields c.in-Struct.valid c.in-Struct.rows c.args.to c.in-Struct.is c.requires.sound c.requires.within)))
+    (search rules, (c.requires.order, rw c.deref-in-Struct-2.ensures.value (fields_have c.args.node.now c.in-Struct.dtype c.in-Struct.fields c.in-Struct.valid c.in-Struct.rows c.args.to c.in-Struct.is c.requires.sound c.requires.within)))
 
 pub cut_parts-returns : goal.cut_parts-returns
 cut_parts-returns t c =
