@@ -7,7 +7,7 @@ use vx_layout_tree::{Layout, LayoutError, LayoutParts};
 use vx_session::{LayoutBuildContext, LayoutEncoding};
 
 /// Parts, and what a build needs besides them.
-#[derive(Debug, Drop)]
+#[derive(Drop)]
 pub struct LayoutDeserializeArgs {
     pub parts: LayoutParts,
     pub context: LayoutBuildContext,

@@ -1,7 +1,7 @@
 -- Children as contracts see them.
 use Rattle.std.specs.Prelude.{ℕ, Bool, true, false, if◌then◌else◌, List, [], ◌∷◌, map, Option, None, slice_get, Ok, Err}
 use Rattle.vx_model.specs.Ty.{Ty, ty_eq}
-use Rattle.vx_layout_spec.specs.LayoutTree.{Kind, flat_kind, LayoutData, layout, layout_kind, layout_type, row_count}
+use Rattle.vx_layout_spec.specs.LayoutTree.{Kind, flat_kind, LayoutData, layout_kind, layout_type, row_count}
 use Rattle.vx_layout_spec.specs.Refusal.{child_type}
 use Rattle.vx_layout_bytes.specs.Node.{nodes_of}
 use Rattle.vx_layout_bytes.specs.Views.{seen_nodes}

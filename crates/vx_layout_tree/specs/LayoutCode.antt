@@ -1,15 +1,15 @@
 -- Layouts as trees of numbers, one to one: by this a proof tells two layouts apart.
-use Rattle.std.specs.Prelude.{◌≡◌, ℕ, zero, suc, Bool, true, false, List, [], ◌∷◌, Option, Some, None, refl}
+use Rattle.std.specs.Prelude.{◌≡◌, ℕ, zero, suc, false, List, [], ◌∷◌, Option, Some, None, refl}
 use Rattle.std.specs.Coded.{Coded, code_by}
 use base.Stored.{Gv, gnil, gnum, gcons}
 use denote.Struct.Codes.{itself}
 use Rattle.vx_model.specs.declared.encoding.EncodingId.{EncodingId}
 use Rattle.vx_model.specs.declared.encoding.EncodingId.TheVariants as encodings
-use Rattle.vx_model.specs.Ty.{Ty, Tys, boolean, primitive, utf8, binary, list, struct, extension, no_fields, field}
+use Rattle.vx_model.specs.Ty.{boolean}
 use Rattle.vx_layout_spec.specs.Refusal.{Refusal, bad_grammar, too_deep, too_many_nodes, unknown_index, unregistered, not_permitted, child_count, child_type, other_rows, segment_count, bad_metadata, unknown_aggregate, slot_range, field_not_found, no_list, no_struct}
 use Rattle.vx_layout_spec.specs.LayoutTree.{Spec, Kind, flat_kind, chunked_kind, struct_kind, list_kind, dict_kind, zoned_kind, unread_zoned_kind, stats_kind, foreign_kind, refused_kind, LayoutData, LayoutList, layout, no_layouts, child}
 use Rattle.vx_model.specs.Numbers.{encoding_number}
-use Rattle.vx_model.specs.Codes.{flag, flag_of, flag_back, number_of, numbers, numbers_of, numbers_back, ptype, ty_code, ty_of, ty_back}
+use Rattle.vx_model.specs.Codes.{flag, flag_of, flag_back, number_of, numbers, numbers_of, numbers_back, ty_code, ty_of, ty_back}
 
 -- ---- refusals: those of a number, of bytes, of two numbers, of two types, and of nothing
 

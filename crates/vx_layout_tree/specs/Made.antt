@@ -14,6 +14,9 @@ use Rattle.vx_layout_tree.specs.Children.{fields_of}
 abbrev pub Made : Type 0
 Made = Result (LayoutData ℕ) Refusal
 
+abbrev pub refused : Refusal → Made
+refused why = Err why
+
 -- 1 where the type is nullable: the validity
 abbrev pub validity_count : Ty → ℕ
 validity_count t = if nullable t then 1 else 0

@@ -12,7 +12,7 @@ use vx_layout_bytes::NodeViews;
 use vx_session::Scope;
 
 /// What a chunked or a struct layout has below it.
-#[derive(Debug, Drop)]
+#[derive(Drop)]
 #[cycle(layout)]
 pub enum LayoutChildren {
     Owned(Vec<Layout>),
@@ -20,7 +20,7 @@ pub enum LayoutChildren {
 }
 
 /// Nodes that stay in their bytes, and what they are built in.
-#[derive(Debug, Drop)]
+#[derive(Drop)]
 pub struct ViewedChildren {
     pub(crate) scope: Arc<Scope>,
     pub(crate) nodes: NodeViews,

@@ -5,7 +5,7 @@ use std::marker::Model;
 use vx_model::{DType, SegmentId};
 
 /// Layouts one behind the other.
-#[derive(Debug, Drop)]
+#[derive(Drop)]
 #[cycle(layout)]
 pub struct ChunkedLayout {
     pub(crate) row_count: u64,

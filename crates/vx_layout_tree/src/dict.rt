@@ -1,12 +1,12 @@
 use crate::error::LayoutError;
 use crate::layout::Layout;
-use crate::shape::{integer_type, is_primitive};
+use crate::shape::{integer_type, is_primitive, other_type};
 use std::alloc::Global;
 use std::marker::Model;
 use vx_model::{DType, SegmentId};
 
 /// Values, and a code a row.
-#[derive(Debug, Drop)]
+#[derive(Drop)]
 #[cycle(layout)]
 pub struct DictLayout {
     pub(crate) row_count: u64,
@@ -50,10 +50,7 @@ impl DictLayout {
     {
         let children = vec![in alloc; values, codes]?;
         if !is_primitive(children[1].dtype()) {
-            return Err(LayoutError::ChildType {
-                has: children[1].dtype().clone()?,
-                needs: integer_type(),
-            });
+            return Err(other_type(&children[1], integer_type()));
         }
         let row_count = children[1].row_count();
         let dtype = children[0].dtype().clone()?;

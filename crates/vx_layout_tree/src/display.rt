@@ -22,6 +22,17 @@ impl fmt::Display for Layout {
     }
 }
 
+impl fmt::Debug for Layout {
+    ghost use Rattle.std.specs.Prelude.{None};
+
+    ghost debug_output = { λ l. None };
+
+    /// The text.
+    fn fmt<W: Write>(&self, f: &mut Formatter<W>) -> fmt::Result {
+        fmt::Display::fmt(self, f)
+    }
+}
+
 fn write_layout<W: Write>(f: &mut Formatter<W>, layout: &Layout) -> fmt::Result
     ensures { WritesOnOk W.write_str_gives f.old result (layout_text (layout_data layout.now)) f.new }
 {

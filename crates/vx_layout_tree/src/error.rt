@@ -1,9 +1,10 @@
 use std::alloc::{AllocError, AllocFailed};
+use std::fmt;
 use thiserror::Error;
 use vx_model::{Blob, DType, FieldName, Text};
 
 /// Why there is no layout: of parts, of bytes, or in a context. Places count bytes from 0.
-#[derive(Debug, Drop, Error)]
+#[derive(Drop, Error)]
 pub enum LayoutError {
     /// The bytes are no node from here on.
     #[error("no layout at byte {0}")]
@@ -79,6 +80,17 @@ impl LayoutError {
             LayoutError::NotAStruct => "NotAStruct",
             LayoutError::OutOfMemory => "OutOfMemory",
         }
+    }
+}
+
+impl fmt::Debug for LayoutError {
+    ghost use Rattle.std.specs.Prelude.{None};
+
+    ghost debug_output = { λ e. None };
+
+    /// The text.
+    fn fmt<W: fmt::Write>(&self, f: &mut fmt::Formatter<W>) -> fmt::Result {
+        fmt::Display::fmt(self, f)
     }
 }
 

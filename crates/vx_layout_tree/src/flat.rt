@@ -1,7 +1,7 @@
 use vx_model::{ArrayContext, Blob, DType, SegmentId};
 
 /// One segment that holds one chunk.
-#[derive(Debug, Drop)]
+#[derive(Drop)]
 pub struct FlatLayout {
     pub(crate) row_count: u64,
     pub(crate) dtype: DType,

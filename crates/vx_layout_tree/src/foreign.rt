@@ -4,7 +4,7 @@ use std::marker::Model;
 use vx_model::{DType, SegmentId, Text};
 
 /// A layout of an id that isn't known here, kept as it was found.
-#[derive(Debug, Drop)]
+#[derive(Drop)]
 #[cycle(layout)]
 pub struct ForeignLayout {
     pub(crate) row_count: u64,

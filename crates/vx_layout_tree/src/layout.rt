@@ -11,7 +11,7 @@ use crate::zoned::{ZoneTable, ZonedLayout};
 use vx_model::{DType, SegmentId};
 
 /// A tree that says how to read rows back. Its leaves name segments.
-#[derive(Debug, Drop)]
+#[derive(Drop)]
 #[cycle(layout)]
 pub enum Layout {
     Flat(FlatLayout),

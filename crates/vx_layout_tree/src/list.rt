@@ -4,13 +4,13 @@ ghost use Rattle.vx_layout_tree.specs.Made.{listed};
 
 use crate::error::LayoutError;
 use crate::layout::Layout;
-use crate::shape::{integer_type, is_primitive, validity_count};
+use crate::shape::{integer_type, is_primitive, other_type, validity_count};
 use std::alloc::{AllocError, Global};
 use std::marker::Model;
 use vx_model::{DType, SegmentId};
 
 /// Elements, offsets, and a validity where the type is nullable.
-#[derive(Debug, Drop)]
+#[derive(Drop)]
 #[cycle(layout)]
 pub struct ListLayout {
     pub(crate) row_count: u64,
@@ -80,12 +80,9 @@ impl ListLayout {
             });
         }
         if !is_primitive(offsets.dtype()) {
-            let has: Result<DType, AllocError> = offsets.dtype().clone();
+            let error = other_type(&offsets, integer_type());
             drop((dtype, elements, offsets, validity));
-            return Err(LayoutError::ChildType {
-                has: has?,
-                needs: integer_type(),
-            });
+            return Err(error);
         }
         let row_count = offsets.row_count().saturating_sub(1);
         let Ok(children) = list_children(alloc, elements, offsets, validity) else {

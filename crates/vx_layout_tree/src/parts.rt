@@ -14,7 +14,7 @@ use vx_aggregate::{AggregateFn, Stat};
 use vx_model::{DType, SegmentId};
 
 /// What layouts of all kinds have.
-#[derive(Debug, Drop)]
+#[derive(Drop)]
 pub struct LayoutParts {
     pub dtype: DType,
     pub row_count: u64,

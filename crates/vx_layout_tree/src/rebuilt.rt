@@ -15,8 +15,9 @@ use crate::layout::Layout;
 use crate::list::ListLayout;
 use crate::stats::LegacyStatsLayout;
 use crate::structs::StructLayout;
+use bytes::Bytes;
 use std::alloc::AllocError;
-use vx_model::{DType, SegmentId};
+use vx_model::{DType, SegmentId, Text};
 
 /// The same segments.
 pub(crate) fn same_segments(segment_ids: &Vec<SegmentId>) -> Result<Vec<SegmentId>, AllocError>
@@ -36,6 +37,16 @@ pub(crate) fn same_head(
     let segment_ids = same_segments(segment_ids)?;
     let dtype = dtype.clone()?;
     Ok((dtype, segment_ids))
+}
+
+/// The same id and metadata.
+fn same_words(id: &Text, metadata: &Bytes) -> Result<(Text, Bytes), AllocError>
+    ensures id { IfOk result (λ words. words.0 ≡ id.now) }
+    ensures metadata { IfOk result (λ words. words.1 ≡ metadata.now) }
+{
+    let metadata = metadata.clone()?;
+    let id = id.clone()?;
+    Ok((id, metadata))
 }
 
 impl ChunkedLayout {
@@ -83,8 +94,10 @@ impl ListLayout {
         requires { map layout_data children.items ≡ children_of self.now }
         ensures { IfOk result (λ copy. copy ≡ self.now) }
     {
-        let segment_ids = same_segments(&self.segment_ids)?;
-        let dtype = self.dtype.clone()?;
+        let Ok((dtype, segment_ids)) = same_head(&self.dtype, &self.segment_ids) else {
+            drop(children);
+            return Err(AllocError);
+        };
         Ok(ListLayout {
             row_count: self.row_count,
             dtype,
@@ -100,8 +113,10 @@ impl DictLayout {
         requires { map layout_data children.items ≡ children_of self.now }
         ensures { IfOk result (λ copy. copy ≡ self.now) }
     {
-        let segment_ids = same_segments(&self.segment_ids)?;
-        let dtype = self.dtype.clone()?;
+        let Ok((dtype, segment_ids)) = same_head(&self.dtype, &self.segment_ids) else {
+            drop(children);
+            return Err(AllocError);
+        };
         Ok(DictLayout {
             row_count: self.row_count,
             dtype,
@@ -118,9 +133,14 @@ impl LegacyStatsLayout {
         requires { map layout_data children.items ≡ children_of self.now }
         ensures { IfOk result (λ copy. copy ≡ self.now) }
     {
-        let segment_ids = same_segments(&self.segment_ids)?;
-        let stats = Vec::from_slice(*self.stats.allocator(), &self.stats)?;
-        let dtype = self.dtype.clone()?;
+        let Ok(stats) = Vec::from_slice(*self.stats.allocator(), &self.stats) else {
+            drop(children);
+            return Err(AllocError);
+        };
+        let Ok((dtype, segment_ids)) = same_head(&self.dtype, &self.segment_ids) else {
+            drop((children, stats));
+            return Err(AllocError);
+        };
         Ok(LegacyStatsLayout {
             row_count: self.row_count,
             dtype,
@@ -138,10 +158,14 @@ impl ForeignLayout {
         requires { map layout_data children.items ≡ children_of self.now }
         ensures { IfOk result (λ copy. copy ≡ self.now) }
     {
-        let segment_ids = same_segments(&self.segment_ids)?;
-        let id = self.id.clone()?;
-        let metadata = self.metadata.clone()?;
-        let dtype = self.dtype.clone()?;
+        let Ok((id, metadata)) = same_words(&self.id, &self.metadata) else {
+            drop(children);
+            return Err(AllocError);
+        };
+        let Ok((dtype, segment_ids)) = same_head(&self.dtype, &self.segment_ids) else {
+            drop((children, id, metadata));
+            return Err(AllocError);
+        };
         Ok(ForeignLayout {
             row_count: self.row_count,
             dtype,

@@ -1,15 +1,14 @@
 //! What the types of the kinds look like.
 
-ghost use Rattle.std.specs.Prelude.{◌≡◌, ◌+◌, ◌<◌, ◌^◌, map, length, if◌then◌else◌, Ok, Err};
-ghost use Rattle.vx_model.specs.Ty.{ty_eq};
+ghost use Rattle.std.specs.Prelude.{◌≡◌, ◌+◌, ◌<◌, ◌^◌, map, length};
 ghost use Rattle.vx_layout_spec.specs.LayoutTree.{layout_type};
 ghost use Rattle.vx_layout_spec.specs.Refusal.{child_type};
 ghost use Rattle.vx_layout_tree.specs.LayoutView.{layout_data};
-ghost use Rattle.vx_layout_tree.specs.Views.{Gives};
+ghost use Rattle.vx_layout_tree.specs.Views.{Fails};
 ghost use Rattle.vx_model.specs.TyView.{ty, field_ty};
 ghost use Rattle.vx_metadata.specs.Kept.{integers_of};
 ghost use Rattle.vx_layout_tree.specs.Children.{fields_of};
-ghost use Rattle.vx_layout_tree.specs.Made.{integer_type as integers, is_primitive as primitive_type, struct_children as children_needed, validity_count as validities};
+ghost use Rattle.vx_layout_tree.specs.Made.{integer_type as integers, is_primitive as primitive_type, refused, struct_children as children_needed, validity_count as validities};
 
 use crate::error::LayoutError;
 use crate::layout::Layout;
@@ -33,23 +32,15 @@ pub(crate) fn is_primitive(dtype: &DType) -> bool
     }
 }
 
-/// The type of the column, where the zones are of their table type. Refuses `ChildType` where they are not.
-pub(crate) fn column_type(
-    column: &Layout,
-    zones: &Layout,
-    needs: DType,
-) -> Result<DType, LayoutError>
-    ensures { Gives ty result (if ty_eq (layout_type (layout_data zones.now)) (ty needs) then Ok (layout_type (layout_data column.now)) else Err (child_type (layout_type (layout_data zones.now)) (ty needs))) }
+/// Why a child that isn't of this type is refused.
+pub(crate) fn other_type(child: &Layout, needs: DType) -> LayoutError
+    ensures { Fails result (refused (child_type (layout_type (layout_data child.now)) (ty needs))) }
 {
-    if *zones.dtype() == needs {
+    let Ok(has) = child.dtype().clone() else {
         drop(needs);
-        return Ok(column.dtype().clone()?);
-    }
-    let Ok(has) = zones.dtype().clone() else {
-        drop(needs);
-        return Err(LayoutError::OutOfMemory);
+        return LayoutError::OutOfMemory;
     };
-    Err(LayoutError::ChildType { has, needs })
+    LayoutError::ChildType { has, needs }
 }
 
 /// One where the type is nullable.

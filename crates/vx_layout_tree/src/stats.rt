@@ -1,13 +1,13 @@
 use crate::error::LayoutError;
 use crate::layout::Layout;
-use crate::shape::column_type;
+use crate::shape::other_type;
 use std::alloc::Global;
 use std::marker::Model;
 use vx_aggregate::{Stat, legacy_stats_table_dtype};
 use vx_model::{DType, SegmentId};
 
 /// A column, and an older table with statistics of each of its zones.
-#[derive(Debug, Drop)]
+#[derive(Drop)]
 #[cycle(layout)]
 pub struct LegacyStatsLayout {
     pub(crate) row_count: u64,
@@ -68,7 +68,10 @@ impl LegacyStatsLayout {
     {
         let children = vec![in alloc; column, zones]?;
         let needs = legacy_stats_table_dtype(alloc, children[0].dtype(), &stats)?;
-        let dtype = column_type(&children[0], &children[1], needs)?;
+        if *children[1].dtype() != needs {
+            return Err(other_type(&children[1], needs));
+        }
+        let dtype = children[0].dtype().clone()?;
         let row_count = children[0].row_count();
         Ok(LegacyStatsLayout {
             row_count,

@@ -6,7 +6,7 @@ use std::marker::Model;
 use vx_model::{DType, SegmentId};
 
 /// A validity where the type is nullable, then a layout a field.
-#[derive(Debug, Drop)]
+#[derive(Drop)]
 #[cycle(layout)]
 pub struct StructLayout {
     pub(crate) row_count: u64,

@@ -1,7 +1,7 @@
 use crate::children::{LayoutChildren, kept_rows};
 use crate::error::LayoutError;
 use crate::layout::Layout;
-use crate::shape::column_type;
+use crate::shape::other_type;
 use bytes::Bytes;
 use std::alloc::Global;
 use std::marker::Model;
@@ -10,7 +10,7 @@ use vx_aggregate::{AggregateFn, aggregate_stats_table_dtype};
 use vx_model::{DType, SegmentId};
 
 /// A table that records an aggregate that isn't known: its metadata, and the table as it was found.
-#[derive(Debug, Drop)]
+#[derive(Drop)]
 #[cycle(layout)]
 pub struct UnreadZones {
     pub(crate) metadata: Bytes,
@@ -18,7 +18,7 @@ pub struct UnreadZones {
 }
 
 /// Whether the table of the zones is read.
-#[derive(Debug, Drop)]
+#[derive(Drop)]
 #[cycle(layout)]
 pub enum ZoneTable {
     Read,
@@ -26,7 +26,7 @@ pub enum ZoneTable {
 }
 
 /// A column, and a table with what is recorded of each of its zones.
-#[derive(Debug, Drop)]
+#[derive(Drop)]
 #[cycle(layout)]
 pub struct ZonedLayout {
     pub(crate) row_count: u64,
@@ -88,7 +88,10 @@ impl ZonedLayout {
     {
         let children = vec![in alloc; column, zones]?;
         let needs = aggregate_stats_table_dtype(alloc, children[0].dtype(), &aggregate_fns)?;
-        let dtype = column_type(&children[0], &children[1], needs)?;
+        if *children[1].dtype() != needs {
+            return Err(other_type(&children[1], needs));
+        }
+        let dtype = children[0].dtype().clone()?;
         let row_count = children[0].row_count();
         Ok(ZonedLayout {
             row_count,
