@@ -53,7 +53,13 @@ fn code_cells(alloc: Global, codes: &[u64]) -> Result<Vec<Cell>, AllocError>
 {
     let mut cells = Vec::with_capacity(alloc, codes.len())?;
     for code in codes {
-        cells.push(Cell::Int(i128::from(*code)))?;
+        cells.push(code_cell(*code))?;
     }
     Ok(cells)
+}
+
+fn code_cell(code: u64) -> Cell
+    ensures { tree result ≡ offset_cell code }
+{
+    Cell::Int(i128::from(code))
 }
