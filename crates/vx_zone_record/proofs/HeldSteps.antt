@@ -21,6 +21,12 @@ pub drop_names : (t : Ty) (xs : List AggregateFn) (i : ℕ) (a : AggregateFn) �
     → names_of (held_aggregates (map aggregate (drop i xs)) t) ≡ names_of (with_state (aggregate a) (state_type (aggregate a) t)) ++ names_of (held_aggregates (map aggregate (drop (i + 1) xs)) t)
 drop_names t xs i a lt is = rw (drop_more xs i a lt, ← is) (names_append (with_state (aggregate a) (state_type (aggregate a) t)) (held_aggregates (map aggregate (drop (i + 1) xs)) t))
 
+-- one more of them
+pub next_names : (t : Ty) (xs : List AggregateFn) (i : ℕ) (a : AggregateFn) (kept more all : List Aggregate) → i < length xs → a ≡ get_or xs i a
+    → more ≡ kept ++ names_of (with_state (aggregate a) (state_type (aggregate a) t)) → kept ++ names_of (held_aggregates (map aggregate (drop i xs)) t) ≡ all
+    → more ++ names_of (held_aggregates (map aggregate (drop (i + 1) xs)) t) ≡ all
+next_names t xs i a kept more all lt is e h = rw (e, append_assoc) (rw (drop_names t xs i a lt is) at h)
+
 -- the aggregate's name where it has a state, and nothing where it has none
 pub one_name : (a : Aggregate) (t : Ty) (o : Option DType) → option_map ty o ≡ state_type a t → is_some o ≡ true → names_of (with_state a (state_type a t)) ≡ a ∷ []
 one_name a t None e h = cc
