@@ -91,8 +91,8 @@ fn push_column(parts: &mut TableParts, column: TableColumn) -> Result<(), AllocE
     } = column;
     let cells = into_cells(values)?;
     let dtype = state.clone()?;
-    parts.aggregates.push(aggregate)?;
-    parts.fields.push(StructField { name, dtype })?;
     parts.chunks.push(Chunk::plain(state, cells))?;
+    parts.fields.push(StructField { name, dtype })?;
+    parts.aggregates.push(aggregate)?;
     Ok(())
 }
