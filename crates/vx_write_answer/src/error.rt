@@ -1,4 +1,5 @@
 use std::alloc::{AllocError, AllocFailed};
+use std::fmt;
 use thiserror::Error;
 use vx_chunk::Chunk;
 use vx_model::{EncodingId, FieldName, Text};
@@ -8,7 +9,7 @@ use vx_sink::{SinkError, SourceError};
 use vx_split::SplitError;
 
 /// Why a write was refused.
-#[derive(Debug, Drop, Error)]
+#[derive(Drop, Error)]
 pub enum WriteError {
     /// The source failed; its count of faults says so.
     #[error("the source failed")]
@@ -51,6 +52,17 @@ pub enum WriteError {
     /// Of a column that is written beside others: this one was refused under this name, and the whole write ends.
     #[error("column {0} was refused: {1:?}")]
     Stopped(u64, WriteErrorName),
+}
+
+impl fmt::Debug for WriteError {
+    ghost use Rattle.std.specs.Prelude.{None};
+
+    ghost debug_output = { λ e. None };
+
+    /// The text.
+    fn fmt<W: fmt::Write>(&self, f: &mut fmt::Formatter<W>) -> fmt::Result {
+        fmt::Display::fmt(self, f)
+    }
 }
 
 impl From<AllocError> for WriteError {
