@@ -23,11 +23,11 @@ use Rattle.vx_machine_steps.specs.StartPlanned.{IsPlannedAt}
 use Rattle.vx_machine_steps.proofs.Births.{births_within, start_opens}
 use Rattle.vx_machine_steps.proofs.Laws.{move_reads}
 use Rattle.vx_machine_steps.proofs.Listed.{list_numbers, list_indices, refusals_within}
-use Rattle.vx_machine_steps.proofs.StartPlanned.{start_is_planned}
+use Rattle.vx_machine_steps.proofs.StartPlanned.{start_at_is_planned, start_is_planned}
 use Rattle.vx_machine_steps.proofs.Summed.{move_raised, sum_raised, raised_start}
 use Rattle.vx_machine_promises.specs.Write.{Write, Future, depth, begin_at, planned_at}
 use Rattle.vx_machine_promises.specs.Reached.{ReachedAt, moves_at}
-use Rattle.vx_machine_promises.specs.Promises.{RefusesBy, RefusalsHaveCauseAt, RefusalsHaveCause, CountedBy, MovesAreCountedAt, MovesAreCounted, StartIsCounted, TakenIsPlanned}
+use Rattle.vx_machine_promises.specs.Promises.{RefusesBy, RefusalsHaveCauseAt, RefusalsHaveCause, CountedBy, MovesAreCountedAt, MovesAreCounted, StartIsCountedAt, StartIsCounted, TakenIsPlanned}
 use Rattle.vx_machine_promises.proofs.Standing.{at_start_at, runs_at, leads_at, reads_at}
 
 module _ (g : Write) (o : Outset) (taken : List ChunkData) (f : Future) (seen : List Note) (history : List Pair) (tracker : ℕ) (r : ReachedAt g o taken f seen history tracker)
@@ -67,6 +67,10 @@ refusals_have_cause_at o g taken f seen history tracker r can m w i e = refuses_
 
 pub moves_are_counted_at : (o : Outset) → MovesAreCountedAt o
 moves_are_counted_at o g taken f seen history tracker r can m i = counted_by g o taken f seen history tracker r can m i
+
+pub start_is_counted_at : (o : Outset) → StartIsCountedAt o
+start_is_counted_at o g f n can i = (start_at_is_planned g.setting g.way g.type g.mark o f.later f.fits can).starts n
+    (start_opens g.setting (depth g) (walk form_nodes g.way g.type) g.mark o f.later f.fits n i)
 
 -- ---- a whole write
 

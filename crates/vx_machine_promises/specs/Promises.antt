@@ -21,7 +21,7 @@ use Rattle.vx_machine_turns.specs.Planned.{AtMost}
 use Rattle.vx_strategy_spec.specs.Walk.{walk}
 use Rattle.vx_machine_steps.specs.Tree.{Tree, read, counts, opened}
 use Rattle.vx_machine_steps.specs.Moves.{TreeMove, all_paths, all_over}
-use Rattle.vx_machine_steps.specs.Start.{root_seed}
+use Rattle.vx_machine_steps.specs.Start.{root_at, root_seed}
 use Rattle.vx_machine_steps.specs.Stands.{Stands}
 use Rattle.vx_machine_promises.specs.Write.{Write, Future, Answer, depth, begin_at, scripts_at, planned_at, scripts, planned, taken_by, before}
 use Rattle.vx_machine_promises.specs.Reached.{ReachedAt, Reached, moves_at, pick_at, Stepped}
@@ -201,6 +201,11 @@ TakenIsPlanned = (g : Write) (taken : List ChunkData) (heard : Bool) → OfSchem
     → planned g taken (record { later = []; fits = heard }) ≡ taken_plan g.setting g.way g.type g.mark taken heard
 
 -- and of the start: of the root and all that is started with it
+
+abbrev pub StartIsCountedAt : Outset → Type 0
+StartIsCountedAt o = (g : Write) (f : Future) (n : ℕ) → CanBegin o (length f.later)
+    → In n (opened (less (depth g) (form_type (walk form_nodes g.way g.type))) (root_at (walk form_nodes g.way g.type) g.mark o ∷ [])) → AtMost n (planned_at g o [] f).numbers
+
 abbrev pub StartIsCounted : Type 0
 StartIsCounted = (g : Write) (f : Future) (n : ℕ) → In n (opened (less (depth g) (form_type (walk form_nodes g.way g.type))) (root_seed (walk form_nodes g.way g.type) g.mark ∷ []))
     → AtMost n (planned g [] f).numbers

@@ -3,7 +3,7 @@
 #![tactic(auto)]
 
 ghost use Rattle.vx_named_tasks.specs.Names.{Outset};
-ghost use Rattle.vx_machine_promises.specs.Promises.{StartIsReachedAt, StepIsReachedAt, StateStandsAt, SomethingIsReadyAt, WorkFallsAt, HistoryIsFirstAt, PathsAreApartAt, EndIsPlannedAt, RefusalsHaveCauseAt, MovesAreCountedAt, ValidIsSoundAt, StartIsReached, StepIsReached, SomethingIsReady, WorkFalls, WorkIsShared, SeenIsFirst, SeenIsWhole, AllSteps, FewerSteps, HistoryIsFirst, EndIsPlanned, RefusalsHaveCause, MovesAreCounted, StartIsCounted, ValidIsSound, AppendsFit, TakenIsPlanned};
+ghost use Rattle.vx_machine_promises.specs.Promises.{StartIsReachedAt, StepIsReachedAt, StateStandsAt, SomethingIsReadyAt, WorkFallsAt, HistoryIsFirstAt, PathsAreApartAt, EndIsPlannedAt, RefusalsHaveCauseAt, MovesAreCountedAt, StartIsCountedAt, ValidIsSoundAt, StartIsReached, StepIsReached, SomethingIsReady, WorkFalls, WorkIsShared, SeenIsFirst, SeenIsWhole, AllSteps, FewerSteps, HistoryIsFirst, EndIsPlanned, RefusalsHaveCause, MovesAreCounted, StartIsCounted, ValidIsSound, AppendsFit, TakenIsPlanned};
 
 /// Wherever a machine begins, over whatever sink: from the start on, step by step; something is ready, each move lowers the work left by
 /// one, and what was appended are the first of all pairs. Where all is done it is as planned, and what a move refuses and counts is.
@@ -18,6 +18,7 @@ pub fn anywhere()
     ensures ends { (o : Outset) → EndIsPlannedAt o }
     ensures refusals { (o : Outset) → RefusalsHaveCauseAt o }
     ensures moves { (o : Outset) → MovesAreCountedAt o }
+    ensures starts { (o : Outset) → StartIsCountedAt o }
     ensures sound { (o : Outset) → ValidIsSoundAt o }
 {}
 

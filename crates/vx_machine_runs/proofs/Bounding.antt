@@ -135,7 +135,7 @@ numbers_are_counted began reached planned_end most w first ns y law s l fin one 
         by (m, inl e, k) = omega (arith, one, e, k)
         by (m, inr j, k) = let a : m < most = below m (subst (λ z. In m z) is j) in omega (arith, a, k)
 
-fit_each : (ns : List ℕ) → AllBelow (2 ^ 64) ns → Fit ns
+pub fit_each : (ns : List ℕ) → AllBelow (2 ^ 64) ns → Fit ns
 fit_each [] h = tt
 fit_each (n ∷ ns) h = (h n (inl refl), fit_each ns (λ k i. h k (inr i)))
 

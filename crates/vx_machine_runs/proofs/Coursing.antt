@@ -10,7 +10,6 @@ use Rattle.vx_machine_state.specs.Images.{Careful}
 use Rattle.vx_layout_spec.specs.LayoutTree.{renamed}
 use Rattle.vx_tasks.specs.State.{left}
 use Rattle.vx_tasks.specs.Rules.{AtLeast}
-use Rattle.vx_tasks.specs.Task.{Append}
 use Rattle.vx_tasks.specs.Run.{Note, nth, first_pick, later_picks}
 use Rattle.vx_tasks.specs.Runs.{noted}
 use Rattle.vx_cut_laws.specs.Cut.{cut}
@@ -23,16 +22,16 @@ use Rattle.vx_plan.proofs.Spots.{scattered_left}
 use Rattle.vx_machine_turns.specs.Acts.{refuses, written_by}
 use Rattle.vx_machine_turns.specs.Source.{stream_plan}
 use Rattle.vx_machine_turns.specs.Readings.{number_reading}
-use Rattle.vx_machine_steps.specs.Tree.{Tree, read, opened, counts}
+use Rattle.vx_machine_steps.specs.Tree.{read, opened, counts}
 use Rattle.vx_machine_steps.specs.Moves.{TreeMove, tree_moves, all_paths, all_over}
 use Rattle.vx_machine_steps.specs.Runs.{picks_after}
 use Rattle.vx_machine_steps.specs.Stands.{Stands}
 use Rattle.vx_machine_steps.specs.StartPlanned.{started_at, forest_at}
 use Rattle.vx_machine_promises.specs.Write.{Write, Future, Open, Answer, unasked, came, over, depth, scripts_at, planned_at, taken_by, heard_by, before}
 use Rattle.vx_machine_promises.specs.Reached.{ReachedAt, moves_at, pick_at, Stepped}
-use Rattle.vx_machine_promises.specs.Promises.{StartIsReachedAt, StepIsReachedAt, StateStandsAt, SomethingIsReadyAt, WorkFallsAt, HistoryIsFirstAt, PathsAreApartAt, EndedBy, EndIsPlannedAt, RefusalsHaveCauseAt, CountedBy, MovesAreCountedAt}
+use Rattle.vx_machine_promises.specs.Promises.{StartIsReachedAt, StepIsReachedAt, StateStandsAt, SomethingIsReadyAt, WorkFallsAt, HistoryIsFirstAt, PathsAreApartAt, EndedBy, EndIsPlannedAt, RefusalsHaveCauseAt, CountedBy, MovesAreCountedAt, StartIsCountedAt}
 use Rattle.vx_machine_state.specs.Reserved.{reserved_by}
-use Rattle.vx_machine_view.specs.Machine.{Phase, Machine, WholeStep, whole_steps, is_finished, machine_ids}
+use Rattle.vx_machine_view.specs.Machine.{WholeStep, whole_steps, is_finished, machine_ids}
 use Rattle.vx_machine_view.specs.Places.{whole_ready}
 use Rattle.vx_machine_view.specs.Whole.{form_of, Asks, outset_from, SameHeld, ShowsMachineAt, SameWholeAt}
 use Rattle.vx_machine_view.proofs.Ending.{held_shows_at, moves_shows_at, finish_shows_at, layout_shows_at}
@@ -45,10 +44,12 @@ use Rattle.vx_machine_view.proofs.Words.{same_some}
 use Rattle.vx_machine_runs.specs.Ends.{Caused}
 use Rattle.vx_machine_runs.specs.Tracked.{Comes}
 use Rattle.vx_machine_runs.specs.Runs.{Asking, TypedAnswer, BeforeEnd, PickedBy}
-use Rattle.vx_machine_runs.specs.Courses.{Point, start_point, point_after, Goes, GoesBy, HasComeTo, tracked_at, Numbered, StandsIn, ForFutures, LeavesIn, CourseIsUnderway, CourseIsReady, CourseIsFront, CourseGoesOn, FinishedBy, CourseEnds, ChosenAt, CausedThere, CourseHasCause}
+use Rattle.vx_machine_runs.specs.Courses.{Point, start_point, point_after, Goes, GoesBy, HasComeTo, tracked_at, Numbered, StandsIn, ForFutures, LeavesIn, CourseIsUnderway, CourseIsReady, CourseIsFront, CourseGoesOn, FinishedBy, CourseEnds, CausedThere, CourseHasCause, CourseStartHasCause}
 use Rattle.vx_machine_runs.proofs.Asking.{is_past, Tells, step_tells, before_end}
 use Rattle.vx_machine_runs.proofs.Counting.{nth_in}
+use Rattle.vx_machine_runs.proofs.Doing.{did, counted_in, move_did, opened_first_at}
 use Rattle.vx_machine_runs.proofs.Ending.{none_later, open_none}
+use Rattle.vx_machine_runs.proofs.Sounding.{past_most}
 use Rattle.vx_machine_runs.proofs.Stepping.{open_before, asks_by, picks_more}
 
 -- ---- numbers of paths
@@ -112,7 +113,7 @@ number_of_one number n wrote p b is e = sym (only (number p) n (subst (λ z. map
 
 -- ---- what comes with a step
 
-goes_long : (g : Write) (x y : Point) (n : Note) → Goes g x y n → length x.numbers ≡ length x.history → length y.numbers ≡ length y.history
+pub goes_long : (g : Write) (x y : Point) (n : Note) → Goes g x y n → length x.numbers ≡ length x.history → length y.numbers ≡ length y.history
 goes_long g x y n d l =
     let a : length (x.numbers ++ map (λ p. d.number) d.step.wrote) ≡ length x.numbers + length (map (λ p. d.number) d.step.wrote) = length-append x.numbers (map (λ p. d.number) d.step.wrote) in
     let b : length (map (λ p. d.number) d.step.wrote) ≡ length d.step.wrote = map_length (λ p. d.number) d.step.wrote in
@@ -120,7 +121,7 @@ goes_long g x y n d l =
     let e : length (x.numbers ++ map (λ p. d.number) d.step.wrote) ≡ length (x.history ++ d.step.wrote) = omega (arith, a, b, c, l) in
     subst (λ (z : Point). length z.numbers ≡ length z.history) (sym d.left) e
 
-same_batches : (taken : List ChunkData) (told : Answer) (f : Future) → taken ++ (before told f).later ≡ taken_by taken told ++ f.later
+pub same_batches : (taken : List ChunkData) (told : Answer) (f : Future) → taken ++ (before told f).later ≡ taken_by taken told ++ f.later
 same_batches taken unasked f = refl
 same_batches taken (came b) f = sym (append_assoc taken (b ∷ []) f.later)
 same_batches taken over f = refl
@@ -170,7 +171,7 @@ module _ (reached : (o : Outset) → StepIsReachedAt o) (stands : (o : Outset) �
           sym (whole_is_ready g.setting (machine_ids x.machine) number told x.machine)
           ∙ ready_shows_at o g some_number number (machine_ids x.machine) told f x.machine r.tree law stands_here shown ∙ ap length same_moves
 
-      is_over : is_finished x.machine ≡ all_over r.tree
+      pub is_over : is_finished x.machine ≡ all_over r.tree
       is_over = finish_shows_at o g some_number f x.machine r.tree stands_here shown
 
       held_alike : SameHeld (machine_ids x.machine) (all_paths r.tree)
@@ -186,7 +187,7 @@ module _ (reached : (o : Outset) → StepIsReachedAt o) (stands : (o : Outset) �
     abbrev new : Point
     new = point_after x told number w
 
-    can_before : CanBegin o (length (x.taken ++ ahead.later))
+    pub can_before : CanBegin o (length (x.taken ++ ahead.later))
     can_before = subst (λ bs. CanBegin o (length bs)) (sym (same_batches x.taken told f)) can
 
     ask : Asks g.type f x.machine.phase n.picked told
@@ -198,7 +199,7 @@ module _ (reached : (o : Outset) → StepIsReachedAt o) (stands : (o : Outset) �
           → (v : TreeMove) × (nth (tree_moves g.setting (machine_ids x.machine) (depth g) r.tree) n.picked ≡ Some v) × SameWholeAt g o by number f w v
       move_by by shown = step_shows_at o g by number (machine_ids x.machine) x.heard told f x.machine r.tree n.picked w law (stands_here notes x ahead long can_before r shows) may shown place ask
 
-      some_move : (v : TreeMove) × (nth (tree_moves g.setting (machine_ids x.machine) (depth g) r.tree) n.picked ≡ Some v) × SameWholeAt g o (some_number notes x ahead long can_before r) number f w v
+      pub some_move : (v : TreeMove) × (nth (tree_moves g.setting (machine_ids x.machine) (depth g) r.tree) n.picked ≡ Some v) × SameWholeAt g o (some_number notes x ahead long can_before r) number f w v
       some_move = move_by (some_number notes x ahead long can_before r) (shown notes x ahead long can_before r shows)
 
       abbrev move : TreeMove
@@ -237,11 +238,11 @@ module _ (reached : (o : Outset) → StepIsReachedAt o) (stands : (o : Outset) �
         tracked = even;
       }
 
-      grown : (q : ReachedAt g o (taken_by x.taken told) f (notes ++ (n ∷ [])) (x.history ++ w.wrote) (g.tracker + reserved_by w.after.root)) × (q.tree ≡ move.after)
+      pub grown : (q : ReachedAt g o (taken_by x.taken told) f (notes ++ (n ∷ [])) (x.history ++ w.wrote) (g.tracker + reserved_by w.after.root)) × (q.tree ≡ move.after)
       grown = reached o g x.taken told f notes x.history (x.history ++ w.wrote) (tracked_at g x) (g.tracker + reserved_by w.after.root) n r stepped
 
       -- whatever numbers it ahead has
-      shows_then : (by : List ℕ → ℕ) → Numbered by new → ShowsMachineAt g o by w.after f grown.0.tree
+      pub shows_then : (by : List ℕ → ℕ) → Numbered by new → ShowsMachineAt g o by w.after f grown.0.tree
       shows_then by numbered =
           let both = numbered_both by x told number w numbered in
           let m : (v : TreeMove) × (nth (tree_moves g.setting (machine_ids x.machine) (depth g) r.tree) n.picked ≡ Some v) × SameWholeAt g o by number f w v = move_by by (shows by both.0) in
@@ -250,8 +251,16 @@ module _ (reached : (o : Outset) → StepIsReachedAt o) (stands : (o : Outset) �
           subst (ShowsMachineAt g o by w.after f) (sym grown.1)
           (s.after done (λ q e. number_of_one by number w.wrote q move.act.bytes (s.wrote ∙ ap (λ z. written_by z move.act.bytes) e) both.1))
 
-      abbrev state_then : StandsIn g o (notes ++ (n ∷ [])) new f
+      abbrev pub state_then : StandsIn g o (notes ++ (n ∷ [])) new f
       state_then = record { reached = grown.0; shows = shows_then }
+
+      -- what is counted then was before, or in the step
+      pub counted_then : (i : ℕ) → In i (did state_then.reached.tree) → In i (did r.tree) ⊎ In i (w.numbers ++ w.indices)
+      counted_then i h = ⊎_elim (λ z. inl z) (λ z. inr (subst (λ v. In i v) is z))
+          (move_did g.setting (all_paths r.tree) (depth g) r.tree move (nth_in (moves_at g r.tree) n.picked move at) i (subst (λ t. In i (did t)) grown.1 h))
+        where
+          is : counted_in move ≡ w.numbers ++ w.indices
+          is = ap (λ z. z ++ (move.act.indices ++ opened move.room move.act.starts)) (sym some_move.2.numbers) ∙ ap (λ z. w.numbers ++ z) (sym some_move.2.indices)
 
       -- and one act less is left
       less : suc (left (cut (scripts_at g o (taken_by x.taken told) f)) (counts grown.0.tree)) ≡ left (cut (scripts_at g o x.taken ahead)) (counts r.tree)
@@ -278,11 +287,11 @@ comes_past : (g : Write) (ns : List Note) (x y : Point) → GoesBy g x ns y → 
 comes_past g [] x y c p = subst Past c p
 comes_past g (n ∷ ns) x y c p = comes_past g ns c.0 y c.2 (goes_past g x c.0 n c.1 p)
 
-comes_long : (g : Write) (ns : List Note) (x y : Point) → GoesBy g x ns y → length x.numbers ≡ length x.history → length y.numbers ≡ length y.history
+pub comes_long : (g : Write) (ns : List Note) (x y : Point) → GoesBy g x ns y → length x.numbers ≡ length x.history → length y.numbers ≡ length y.history
 comes_long g [] x y c l = subst (λ (z : Point). length z.numbers ≡ length z.history) c l
 comes_long g (n ∷ ns) x y c l = comes_long g ns c.0 y c.2 (goes_long g x c.0 n c.1 l)
 
-comes_more : (g : Write) (x y z : Point) (ns : List Note) (n : Note) → GoesBy g x ns y → Goes g y z n → GoesBy g x (ns ++ (n ∷ [])) z
+pub comes_more : (g : Write) (x y z : Point) (ns : List Note) (n : Note) → GoesBy g x ns y → Goes g y z n → GoesBy g x (ns ++ (n ∷ [])) z
 comes_more g x y z [] n c d = (z, subst (λ v. Goes g v z n) (sym c) d, refl)
 comes_more g x y z (m ∷ ns) n c d = (c.0, c.1, comes_more g c.0 y z ns n c.2 d)
 
@@ -487,3 +496,7 @@ course_has_cause starts reached stands falls first apart refusals moved_counts g
         joined_by j (inl e) = inl e
         joined_by j (inr q) = inr ((at_start_at g (outset_from stream eof) x.taken (before told f) notes x.history (tracked_at g x) s.reached can_before).numbers j
             (subst (In j) (reads_at g (outset_from stream eof) x.taken (before told f) notes x.history (tracked_at g x) s.reached can_before number_reading) q))
+
+pub course_start_has_cause : ((o : Outset) → StartIsCountedAt o) → CourseStartHasCause
+course_start_has_cause counted g stream eof f n can i big =
+    past_most n (planned_at g (outset_from stream eof) [] f).numbers big (counted (outset_from stream eof) g f n can (subst (λ z. In n z) (sym (opened_first_at g (outset_from stream eof))) i))

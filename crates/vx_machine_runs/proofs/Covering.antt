@@ -10,6 +10,7 @@ use Rattle.vx_rules.specs.Columns.{Split, column, other_columns, struct_splits, 
 use Rattle.vx_strategy_spec.specs.StrategyData.{StrategyData, FlatOptions}
 use Rattle.vx_strategy_spec.specs.Walk.{walk}
 use Rattle.vx_tasks.specs.Runs.{first_batch}
+use Rattle.vx_named_tasks.specs.Names.{onward}
 use Rattle.vx_plan.specs.PlanData.{Setting, Item, Node, rows_in, totals, row_totals}
 use Rattle.vx_plan.specs.FlatNode.{flat_node, segment, length_of}
 use Rattle.vx_plan.specs.ChunkedNode.{chunked_node, chunk_plans, chunked_numbers}
@@ -22,22 +23,23 @@ use Rattle.vx_machine_turns.specs.Locals.{ChunkedNode, StructNode, ListNode, chu
 use Rattle.vx_machine_turns.specs.Turns.{firsts, start_indices}
 use Rattle.vx_machine_turns.specs.Scripts.{script}
 use Rattle.vx_machine_turns.specs.Starts.{struct_columns_of, list_columns_of, marked_forms}
-use Rattle.vx_machine_turns.specs.Source.{source_acts, source_seed}
+use Rattle.vx_machine_turns.specs.Source.{named_acts, named_items, seed_at, source_acts, source_seed, stream_plan}
 use Rattle.vx_machine_turns.specs.Fuels.{Fuel, spent, fuel, fuel_of, Enough, AllEnough}
 use Rattle.vx_machine_turns.specs.Duties.{Duty, duty_of, duty_script, below}
 use Rattle.vx_machine_turns.specs.Planned.{AtMost}
 use Rattle.vx_machine_turns.proofs.DutyLaws.{row_is, unread_same}
+use Rattle.vx_machine_turns.proofs.WholeLaws as named
 use Rattle.vx_machine_turns.proofs.ChunkedLaws.{chunk_duties, all_seeds, all_given}
 use Rattle.vx_machine_turns.proofs.ColumnLaws.{column_duties, puts_add, ends_last}
 use Rattle.vx_machine_turns.proofs.StructLaws.{struct_streams}
 use Rattle.vx_machine_turns.proofs.ListLaws.{list_streams}
 use Rattle.vx_machine_turns.proofs.Fueled.{fuel_is_enough}
 use Rattle.vx_machine_steps.specs.Tree.{read}
-use Rattle.vx_machine_steps.specs.StartPlanned.{started}
-use Rattle.vx_machine_steps.proofs.Start.{start_reads}
+use Rattle.vx_machine_steps.specs.StartPlanned.{started_at, started}
+use Rattle.vx_machine_steps.proofs.Start.{start_at_reads, start_reads}
 use Rattle.vx_machine_promises.specs.Write.{Write, depth}
 use Rattle.vx_machine_view.specs.Suited.{Suited, AllSuited}
-use Rattle.vx_machine_view.specs.Whole.{form_of}
+use Rattle.vx_machine_view.specs.Whole.{form_of, outset_from}
 use Rattle.vx_machine_view.proofs.Suiting.{forms_are_suited}
 use Rattle.vx_machine_view.proofs.Words.{no_cons}
 use Rattle.vx_machine_runs.proofs.Covers.{counted_by, count_reading, all_counted, Covers, most_over, most_in, AllCovered, parent_covers}
@@ -393,3 +395,45 @@ start_covered g bs fits n i = subst (λ z. AtMost n (1 ∷ z)) (sym is) (by i)
         most_over n 0 1 (indices_in acts) (mine ++ ((own ++ (kids ++ [])) ++ [])) (omega arith) from_source (h.0, h.1, omega (arith, l, e))
     by (inr j) = most_over n 1 1 (own ++ kids) (mine ++ ((own ++ (kids ++ [])) ++ [])) (omega arith) from_root
         ((plan_covered g.setting g.way g.type).covers g.mark (1 ∷ []) (batch_items 0 bs) fits root_eof (fuel_of (form_of g)) (fuel_is_enough g.way g.type).1 n j)
+
+-- ---- wherever it begins
+
+-- the same of a machine whose batches get their paths from one pointer on, and that goes on from another: neither has come further than this
+pub start_covered_at : (g : Write) (stream eof : Eof) (most : ℕ) (bs : List ChunkData) (fits : Bool) → stream.last ≤ most → eof.last ≤ most → (n : ℕ)
+    → In n (stream_plan g.setting g.way g.type g.mark (outset_from stream eof) bs fits).numbers
+    → AtMost n (most ∷ read g.setting count_reading (depth g) 0 [] (started_at g.way g.type g.mark (outset_from stream eof) bs fits))
+start_covered_at g stream eof most bs fits at_stream at_eof n i = subst (λ z. AtMost n (most ∷ z)) (sym is) (by i)
+  where
+    acts : List Act
+    acts = named_acts (onward stream) bs fits
+
+    c : Duty
+    c = duty_of g.setting (form_of g) g.mark (1 ∷ []) (named_items (onward stream) bs) fits eof
+
+    mine : List ℕ
+    mine = counted_by (seed_at (form_of g) g.mark (outset_from stream eof)) acts
+
+    own : List ℕ
+    own = counted_by c.seed (duty_script g.setting c)
+
+    kids : List ℕ
+    kids = below g.setting count_reading (fuel_of (form_of g)) c
+
+    is : read g.setting count_reading (depth g) 0 [] (started_at g.way g.type g.mark (outset_from stream eof) bs fits) ≡ mine ++ ((own ++ (kids ++ [])) ++ [])
+    is = start_at_reads count_reading g.setting (depth g) (form_of g) g.mark (outset_from stream eof) bs fits
+        ∙ ap (λ z. mine ++ (z ++ [])) (row_is g.setting count_reading (λ u. fuel_of (form_of g)) 0 acts (c ∷ []) (named.gives_batches (onward stream) bs fits, named.closes_root (onward stream) bs fits, tt))
+
+    from_root : (k : ℕ) → In k (own ++ kids) → In k (mine ++ ((own ++ (kids ++ [])) ++ []))
+    from_root k z = in_right k mine ((own ++ (kids ++ [])) ++ [])
+        (in_left k (own ++ (kids ++ [])) [] (subst (λ y. In k y) (append_assoc own kids []) (in_left k (own ++ kids) [] z)))
+
+    from_source : (k : ℕ) → In k (indices_in acts) → In k (mine ++ ((own ++ (kids ++ [])) ++ []))
+    from_source k z = in_left k mine ((own ++ (kids ++ [])) ++ []) (in_left k (numbers_in acts ++ indices_in acts) [] (in_right k (numbers_in acts) (indices_in acts) z))
+
+    by : In n (stream_plan g.setting g.way g.type g.mark (outset_from stream eof) bs fits).numbers → AtMost n (most ∷ (mine ++ ((own ++ (kids ++ [])) ++ [])))
+    by (inl e) =
+        let h = source_moves stream bs fits in
+        let l : stream.last + length bs ≤ h.0 = h.2 in
+        most_over n stream.last most (indices_in acts) (mine ++ ((own ++ (kids ++ [])) ++ [])) at_stream from_source (h.0, h.1, omega (arith, l, e))
+    by (inr j) = most_over n eof.last most (own ++ kids) (mine ++ ((own ++ (kids ++ [])) ++ [])) at_eof from_root
+        ((plan_covered g.setting g.way g.type).covers g.mark (1 ∷ []) (named_items (onward stream) bs) fits eof (fuel_of (form_of g)) (fuel_is_enough g.way g.type).1 n j)

@@ -2,6 +2,7 @@
 use Rattle.std.proofs.Common.{◌≡◌, ◌+◌, ◌⊎◌, ◌||◌, ◌∷◌, ◌++◌, ◌∙◌, ℕ, suc, List, length, refl, sym, ap, subst, inl, inr, ⊎_elim, arith, append_assoc, append-nil, []}
 use Rattle.vx_model.specs.ChunkData.{ChunkData}
 use Rattle.vx_path.specs.Lists.{In}
+use Rattle.vx_named_tasks.specs.Names.{Outset, root_outset}
 use Rattle.vx_path.specs.Path.{root_eof}
 use Rattle.vx_path.proofs.Lists.{in_left, in_right, in_cases}
 use Rattle.vx_tasks.specs.Task.{next}
@@ -11,17 +12,17 @@ use Rattle.vx_machine_turns.specs.Acts.{Seed, Act, numbers_in, indices_in, gifts
 use Rattle.vx_machine_turns.specs.Fuels.{Fuel, spent, fuel, fuel_of, less}
 use Rattle.vx_machine_turns.specs.Turns.{firsts, start_indices}
 use Rattle.vx_machine_turns.specs.Readings.{unread}
-use Rattle.vx_machine_turns.specs.Source.{source_seed}
+use Rattle.vx_machine_turns.specs.Source.{seed_at}
 use Rattle.vx_machine_turns.specs.Plain.{plain, task_of, script_reading}
 use Rattle.vx_machine_turns.proofs.Fueled.{fuel_is_enough}
 use Rattle.vx_machine_steps.specs.Tree.{Tree, Leaf, Work, ahead, read, counts, sprout_row, quiet, sprout, feed, opened_row, opened}
-use Rattle.vx_machine_steps.specs.Start.{root_seed}
+use Rattle.vx_machine_steps.specs.Start.{root_at, root_seed}
 use Rattle.vx_machine_steps.specs.Moves.{Due, TreeMove, tree_moves}
 use Rattle.vx_machine_steps.proofs.Places.{Where, here, under, aside, which}
 use Rattle.vx_machine_steps.proofs.Plain.{next_is}
 use Rattle.vx_machine_steps.proofs.Seen.{Steps, steps_of, due_same}
 use Rattle.vx_machine_steps.proofs.Trimmed.{top_trim, below_trim, beside_trim}
-use Rattle.vx_machine_promises.specs.Write.{Write, Future, begin}
+use Rattle.vx_machine_promises.specs.Write.{Write, Future, begin_at, begin}
 use Rattle.vx_machine_state.specs.Start.{first_indices}
 use Rattle.vx_machine_view.specs.Whole.{form_of, root_depth}
 use Rattle.vx_machine_view.proofs.Beginning.{opened_is}
@@ -178,12 +179,19 @@ all_did s d j (Work h ks r) e =
 -- ---- the start
 
 -- how far pointers come there
+
+pub opened_first_at : (g : Write) (o : Outset) → opened (root_depth g) (root_at (form_of g) g.mark o ∷ []) ≡ first_indices (form_of g) g.mark o.eof
+opened_first_at g o =
+    ap (λ z. start_indices (root_at (form_of g) g.mark o).local ++ z) (append-nil (opened (fuel_of (form_of g)) (firsts (root_at (form_of g) g.mark o))))
+    ∙ opened_is (form_of g) g.mark (1 ∷ []) o.eof (fuel_of (form_of g)) (forms_are_suited g.way g.type) (fuel_is_enough g.way g.type).1
+
 pub opened_first : (g : Write) → opened (root_depth g) (root_seed (form_of g) g.mark ∷ []) ≡ first_indices (form_of g) g.mark root_eof
-opened_first g =
-    ap (λ z. start_indices (root_seed (form_of g) g.mark).local ++ z) (append-nil (opened (fuel_of (form_of g)) (firsts (root_seed (form_of g) g.mark))))
-    ∙ opened_is (form_of g) g.mark (1 ∷ []) root_eof (fuel_of (form_of g)) (forms_are_suited g.way g.type) (fuel_is_enough g.way g.type).1
+opened_first g = opened_first_at g root_outset
+
+pub start_did_at : (g : Write) (o : Outset) (taken : List ChunkData) (f : Future) → did (begin_at g o taken f) ≡ first_indices (form_of g) g.mark o.eof
+start_did_at g o taken f =
+    append-nil (did (sprout (root_depth g) quiet 0 (firsts (seed_at (form_of g) g.mark o))))
+    ∙ sprout_did (root_depth g) 0 quiet (firsts (seed_at (form_of g) g.mark o)) ∙ opened_first_at g o
 
 pub start_did : (g : Write) (taken : List ChunkData) (f : Future) → did (begin g taken f) ≡ first_indices (form_of g) g.mark root_eof
-start_did g taken f =
-    append-nil (did (sprout (root_depth g) quiet 0 (firsts (source_seed (form_of g) g.mark))))
-    ∙ sprout_did (root_depth g) 0 quiet (firsts (source_seed (form_of g) g.mark)) ∙ opened_first g
+start_did g taken f = start_did_at g root_outset taken f

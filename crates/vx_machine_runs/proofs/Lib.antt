@@ -18,4 +18,5 @@ pub mod ZoneCovering
 pub mod Covering
 pub mod Doing
 pub mod Bounding
+pub mod CourseCounting
 mod Examples

@@ -101,7 +101,7 @@ append_is_one_more more g first seen x told f k w y law u o c none e = on (u (be
 
 -- ---- what doesn't fit
 
-past_most : (n : ℕ) (ns : List ℕ) → 2 ^ 64 ≤ n → AtMost n ns → IsPast (2 ^ 64) ns
+pub past_most : (n : ℕ) (ns : List ℕ) → 2 ^ 64 ≤ n → AtMost n ns → IsPast (2 ^ 64) ns
 past_most n ns big (m, i, l) = (omega arith, inr (refl, (m, i, omega (arith, big, l))))
 
 pub past_is_caused : PastIsCaused

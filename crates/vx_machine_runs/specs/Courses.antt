@@ -1,5 +1,5 @@
 -- Runs of the machine wherever it begins and over whatever sink: one of its own, or one that others use too.
-use Rattle.std.specs.Prelude.{◌≡◌, ◌+◌, ◌%◌, ◌<◌, ◌≤◌, ℕ, suc, Bool, true, false, List, [], ◌∷◌, ◌++◌, map, length, Some, None, IsFalse}
+use Rattle.std.specs.Prelude.{◌≡◌, ◌+◌, ◌%◌, ◌^◌, ◌<◌, ◌≤◌, ℕ, suc, Bool, true, false, List, [], ◌∷◌, ◌++◌, map, length, Some, None, IsFalse}
 use Rattle.vx_model.specs.ChunkData.{ChunkData}
 use Rattle.vx_path.specs.Lists.{In}
 use Rattle.vx_path.specs.Path.{Eof}
@@ -14,6 +14,7 @@ use Rattle.vx_layout_spec.specs.LayoutTree.{renamed}
 use Rattle.vx_plan.specs.PlanData.{Pair, Plan}
 use Rattle.vx_plan.specs.Number.{sorted}
 use Rattle.vx_plan.specs.SourcePlan.{start_fault}
+use Rattle.vx_plan.specs.Valid.{Fit, IsPast}
 use Rattle.vx_machine_turns.specs.Source.{stream_plan}
 use Rattle.vx_machine_steps.specs.Tree.{counts}
 use Rattle.vx_machine_steps.specs.Runs.{picks_after}
@@ -21,10 +22,12 @@ use Rattle.vx_machine_promises.specs.Write.{Write, Future, Open, Answer, begin_a
 use Rattle.vx_machine_promises.specs.Reached.{ReachedAt}
 use Rattle.vx_machine_state.specs.Acts.{layouts_in}
 use Rattle.vx_machine_state.specs.Reserved.{reserved_by}
+use Rattle.vx_machine_state.specs.Start.{first_indices}
 use Rattle.vx_machine_view.specs.Machine.{Machine, start_from, WholeStep, whole_steps, is_finished, machine_ids}
 use Rattle.vx_machine_view.specs.Places.{whole_ready}
 use Rattle.vx_machine_view.specs.Whole.{form_of, outset_from, ShowsMachineAt}
 use Rattle.vx_machine_runs.specs.Ends.{Caused}
+use Rattle.vx_machine_runs.specs.Numbers.{AllBelow}
 use Rattle.vx_machine_runs.specs.Tracked.{Comes}
 use Rattle.vx_machine_runs.specs.Runs.{Asking, TypedAnswer, BeforeEnd, PickedBy}
 
@@ -159,3 +162,28 @@ abbrev pub CourseHasCause : Type 0
 CourseHasCause = (g : Write) (stream eof : Eof) (notes : List Note) (x : Point) (told : Answer) (number k : ℕ) (w : WholeStep) (f : Future) → HasComeTo g stream eof notes x → ChosenAt g x told number k w
     → Open (heard_by x.heard told) f → CanBegin (outset_from stream eof) (length (taken_by x.taken told ++ f.later))
     → CausedThere g (outset_from stream eof) notes x (taken_by x.taken told) f k w
+
+-- how far pointers come at the start: what doesn't fit 64 bits is on its way to one of the plan's numbers
+abbrev pub CourseStartHasCause : Type 0
+CourseStartHasCause = (g : Write) (stream eof : Eof) (f : Future) (n : ℕ) → CanBegin (outset_from stream eof) (length f.later) → In n (first_indices (form_of g) g.mark eof) → 2 ^ 64 ≤ n
+    → IsPast (2 ^ 64) (planned_at g (outset_from stream eof) [] f).numbers
+
+-- ---- what is counted
+
+-- what each step counts: rows and lengths, and how far pointers come
+abbrev pub CountedBelow : ℕ → (g : Write) (x : Point) (ns : List Note) (y : Point) → GoesBy g x ns y → Type 0
+CountedBelow most g x [] y c = Unit {0}
+CountedBelow most g x (n ∷ ns) y c = AllBelow most (c.1.step.numbers ++ c.1.step.indices) × CountedBelow most g c.0 ns y c.2
+
+-- Where it has finished, and all that was counted from the start on is below a number, so is each number of the plan of the batches that
+-- were taken.
+abbrev pub CourseIsCounted : Type 0
+CourseIsCounted = (most : ℕ) (g : Write) (stream eof : Eof) (notes : List Note) (x : Point) (h : HasComeTo g stream eof notes x) → CanBegin (outset_from stream eof) (length x.taken)
+    → is_finished x.machine ≡ true → stream.last < most → eof.last < most → AllBelow most (first_indices (form_of g) g.mark eof)
+    → CountedBelow most g (start_point g stream eof) notes x h.comes → AllBelow most (stream_plan g.setting g.way g.type g.mark (outset_from stream eof) x.taken true).numbers
+
+-- so they fit 64 bits, where all that was counted does
+abbrev pub CourseFits : Type 0
+CourseFits = (g : Write) (stream eof : Eof) (notes : List Note) (x : Point) (h : HasComeTo g stream eof notes x) → CanBegin (outset_from stream eof) (length x.taken)
+    → is_finished x.machine ≡ true → stream.last < 2 ^ 64 → eof.last < 2 ^ 64 → AllBelow (2 ^ 64) (first_indices (form_of g) g.mark eof)
+    → CountedBelow (2 ^ 64) g (start_point g stream eof) notes x h.comes → Fit (stream_plan g.setting g.way g.type g.mark (outset_from stream eof) x.taken true).numbers

@@ -1,7 +1,7 @@
 use Rattle.vx_machine_promises.proofs.Standing.{state_stands_at, something_is_ready_at, work_falls_at, history_is_first_at, paths_are_apart_at}
 use Rattle.vx_machine_promises.proofs.Stepping.{start_is_reached_at, step_is_reached_at}
 use Rattle.vx_machine_promises.proofs.Ending.{end_is_planned_at}
-use Rattle.vx_machine_promises.proofs.Causing.{refusals_have_cause_at, moves_are_counted_at}
+use Rattle.vx_machine_promises.proofs.Causing.{refusals_have_cause_at, moves_are_counted_at, start_is_counted_at}
 use Rattle.vx_machine_promises.proofs.Fitting.{valid_is_sound_at}
 use Rattle.vx_machine_promises.proofs.anywhere.Goals as goal
 
@@ -37,3 +37,6 @@ returns-clause-moves c = moves_are_counted_at
 
 pub returns-clause-sound : goal.returns-clause-sound
 returns-clause-sound c = valid_is_sound_at
+
+pub returns-clause-starts : goal.returns-clause-starts
+returns-clause-starts c = start_is_counted_at

@@ -1,4 +1,4 @@
-use Rattle.vx_machine_runs.proofs.Coursing.{ends_as_planned, course_has_cause}
+use Rattle.vx_machine_runs.proofs.Coursing.{ends_as_planned, course_has_cause, course_start_has_cause}
 use Rattle.vx_machine_runs.proofs.course_ends.Goals as goal
 
 pub returns-clause-ends : goal.returns-clause-ends
@@ -6,3 +6,6 @@ returns-clause-ends c = let a = c.anywhere.ensures in ends_as_planned a.start a.
 
 pub returns-clause-causes : goal.returns-clause-causes
 returns-clause-causes c = let a = c.anywhere.ensures in course_has_cause a.start a.step a.stands a.falls a.front a.apart a.refusals a.moves
+
+pub returns-clause-starts : goal.returns-clause-starts
+returns-clause-starts c = course_start_has_cause c.anywhere.ensures.starts
