@@ -10,7 +10,7 @@ use Rattle.vx_plan.specs.PlanData.{Setting, Item, Plan}
 use Rattle.vx_plan.specs.SourcePlan.{plan, batch_items}
 use Rattle.vx_column_plan.specs.Columns.{Column, plans_of}
 use Rattle.vx_moved_plans.specs.Moved.{column_items}
-use Rattle.vx_moved_plans.proofs.Moving.{columns_move}
+use Rattle.vx_moved_plans.proofs.Moving.{columns_move, columns_move_alike}
 use Rattle.vx_column_moves.specs.Moves.{column_chunks, ColumnMovesIn}
 
 -- ---- where a column's plan stands
@@ -75,4 +75,5 @@ column_moves_in s ks k c fs n bs ended h =
           ∙ ap (λ m. Some (written_at s c m (columns_after k xs) ended (after k root_eof))) first
           ∙ ap₂ (λ (is : List Item) (e : Eof). Some (plan s c.way c.type c.mark is ended (inside e))) (column_is k 0 (columns_after k xs) (after_at k 0 xs (splits_at fs n 0 bs))) (after_is k root_eof);
       moved = columns_move s c.way c.type c.mark k cs ended;
+      alike = columns_move_alike s c.way c.type c.mark k cs ended;
     }

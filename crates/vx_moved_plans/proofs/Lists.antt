@@ -34,6 +34,18 @@ near_more n m k (inr e) = inr (omega (arith, e))
 pub near_end : (ms ns : List ℕ) (n m : ℕ) → ms ≡ ns → IsNear n m → AllNear (ms ++ (n ∷ [])) (ns ++ (m ∷ []))
 near_end ms ns n m e h = near_both ms ns (n ∷ []) (m ∷ []) (near_same ms ns e) (h, tt)
 
+near_alike : (n m : ℕ) → IsNear n m → IsNear m n → m ≡ n
+near_alike n m (inl e) h = sym e
+near_alike n m (inr e) (inl d) = d
+near_alike n m (inr e) (inr d) = absurd (omega (arith, e, d))
+
+-- numbers that are near either way are the same
+pub near_twice : (ns ms : List ℕ) → AllNear ns ms → AllNear ms ns → ms ≡ ns
+near_twice [] [] g h = refl
+near_twice [] (m ∷ ms) g h = absurd g
+near_twice (n ∷ ns) [] g h = absurd g
+near_twice (n ∷ ns) (m ∷ ms) g h = ap₂ (λ (a : ℕ) (b : List ℕ). a ∷ b) (near_alike n m g.0 h.0) (near_twice ns ms g.1 h.1)
+
 -- ---- what is moved
 
 module _ (f : Moving) where

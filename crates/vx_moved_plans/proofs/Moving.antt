@@ -1,15 +1,16 @@
 -- Every plan moves, and a column's into its struct.
-use Rattle.std.proofs.Common.{◌≡◌, ℕ, suc, ◌+◌, false, List, [], ◌∷◌, refl, sym, ap, ◌∙◌, subst, inr, arith}
+use Rattle.std.proofs.Common.{◌≡◌, ℕ, zero, suc, ◌+◌, false, List, [], ◌∷◌, ◌++◌, refl, sym, ap, ap₂, ◌∙◌, subst, inl, inr, arith}
 use Rattle.std.proofs.lemmas.Bool.{true≢false}
 use Rattle.vx_model.specs.Ty.{Ty, Tys, no_fields, field}
 use Rattle.vx_model.specs.ChunkData.{ChunkData}
-use Rattle.vx_path.specs.Path.{inside, root_eof}
+use Rattle.vx_path.specs.Path.{root_eof}
 use Rattle.vx_strategy_spec.specs.StrategyData.{StrategyData}
-use Rattle.vx_plan.specs.PlanData.{Setting, Item, Node}
+use Rattle.vx_plan.specs.PlanData.{Setting, Item, Node, Plan}
 use Rattle.vx_plan.specs.SourcePlan.{plan, batch_items}
 use Rattle.vx_plan.proofs.Relate.{Fields, induct}
-use Rattle.vx_moved_plans.specs.Moved.{Moving, moved_items, AllGoAlong, EofGoes, IsMoved, into_column, column_items}
-use Rattle.vx_moved_plans.specs.Statements.{PlansMove, ColumnsMove}
+use Rattle.vx_moved_plans.specs.Moved.{Moving, moved_items, AllGoAlong, EofGoes, IsMoved, into_column, column_eof, at_column, column_items}
+use Rattle.vx_moved_plans.specs.Statements.{PlansMove, ColumnsMove, ColumnsMoveAlike}
+use Rattle.vx_moved_plans.proofs.Lists.{near_twice}
 use Rattle.vx_moved_plans.proofs.Nodes.{Moves, NodesMove, flat_moves, chunked_moves, grouped_moves, compressed_moves, dict_moves, zoned_moves, not_struct_moves, struct_moves, list_moves}
 
 fields_move : (f : Moving) (fs : Tys) (ks : List Node) → Fields (λ t k. Moves f k) fs ks → NodesMove f ks
@@ -36,15 +37,16 @@ plans_move f s w t m items ended e d g h = plan_moves f s w t m items ended e d 
 
 -- ---- into a column
 
-batches_along : (c i : ℕ) (bs : List ChunkData) → AllGoAlong (into_column c) (batch_items i bs)
-batches_along c i [] = tt
-batches_along c i (b ∷ bs) = (λ x. refl, batches_along c (suc i) bs)
+module _ (f : Moving) (c : ℕ) (moves : (i : ℕ) (x : List ℕ) → f (0 ∷ i ∷ x) ≡ 0 ∷ i ∷ c ∷ x) where
+  batches_along : (i : ℕ) (bs : List ChunkData) → AllGoAlong f (batch_items i bs)
+  batches_along i [] = tt
+  batches_along i (b ∷ bs) = (λ x. moves i x ∙ ap (λ z. z ++ x) (sym (moves i [])), batches_along (suc i) bs)
 
-batches_moved : (c i : ℕ) (bs : List ChunkData) → moved_items (into_column c) (batch_items i bs) ≡ column_items c i bs
-batches_moved c i [] = refl
-batches_moved c i (b ∷ bs) = ap (λ (z : List Item). (0 ∷ i ∷ c ∷ [], b) ∷ z) (batches_moved c (suc i) bs)
+  batches_moved : (i : ℕ) (bs : List ChunkData) → moved_items f (batch_items i bs) ≡ column_items c i bs
+  batches_moved i [] = refl
+  batches_moved i (b ∷ bs) = ap₂ (λ (p : List ℕ) (z : List Item). (p, b) ∷ z) (moves i []) (batches_moved (suc i) bs)
 
-root_goes : (c : ℕ) → EofGoes (into_column c) root_eof (inside (record { stem = []; last = 1 + c }))
+root_goes : (c : ℕ) → EofGoes (into_column c) root_eof (column_eof c)
 root_goes c = record {
   along = λ j x.
       let first : 1 + j ≡ suc j = omega arith in
@@ -55,5 +57,41 @@ root_goes c = record {
 
 pub columns_move : ColumnsMove
 columns_move s w t m c bs ended =
-    subst (λ z. IsMoved (into_column c) (plan s w t m (batch_items 0 bs) ended root_eof) (plan s w t m z ended (inside (record { stem = []; last = 1 + c })))) (batches_moved c 0 bs)
-    (plan_moves (into_column c) s w t m (batch_items 0 bs) ended root_eof (inside (record { stem = []; last = 1 + c })) (batches_along c 0 bs) (root_goes c))
+    subst (λ z. IsMoved (into_column c) (plan s w t m (batch_items 0 bs) ended root_eof) (plan s w t m z ended (column_eof c))) (batches_moved (into_column c) c (λ i x. refl) 0 bs)
+    (plan_moves (into_column c) s w t m (batch_items 0 bs) ended root_eof (column_eof c) (batches_along (into_column c) c (λ i x. refl) 0 bs) (root_goes c))
+
+-- ---- from the column's own eof path on, and back
+
+stays : (f : Moving) (c : ℕ) → ((k : ℕ) (x : List ℕ) → f (suc k ∷ x) ≡ suc k ∷ x) → EofGoes f (column_eof c) (column_eof c)
+stays f c same = record {
+  along = λ j x. let first : 1 + c ≡ suc c = omega arith in
+      subst (λ n. f (n ∷ (0 + j) ∷ x) ≡ n ∷ (0 + j) ∷ x) (sym first) (same c ((0 + j) ∷ x));
+  near = inl refl;
+}
+
+abbrev off_column : Moving
+off_column [] = []
+off_column (zero ∷ []) = 0 ∷ []
+off_column (zero ∷ i ∷ []) = 0 ∷ i ∷ []
+off_column (zero ∷ i ∷ c ∷ p) = 0 ∷ i ∷ p
+off_column (suc k ∷ p) = suc k ∷ p
+
+back_along : (c i : ℕ) (bs : List ChunkData) → AllGoAlong off_column (column_items c i bs)
+back_along c i [] = tt
+back_along c i (b ∷ bs) = (λ x. refl, back_along c (suc i) bs)
+
+back_moved : (c i : ℕ) (bs : List ChunkData) → moved_items off_column (column_items c i bs) ≡ batch_items i bs
+back_moved c i [] = refl
+back_moved c i (b ∷ bs) = ap (λ (z : List Item). (0 ∷ i ∷ [], b) ∷ z) (back_moved c (suc i) bs)
+
+pub columns_move_alike : ColumnsMoveAlike
+columns_move_alike s w t m c bs ended =
+    let p : Plan = plan s w t m (batch_items 0 bs) ended (column_eof c) in
+    let q : Plan = plan s w t m (column_items c 0 bs) ended (column_eof c) in
+    let there : IsMoved (at_column c) p q =
+    subst (λ z. IsMoved (at_column c) p (plan s w t m z ended (column_eof c))) (batches_moved (at_column c) c (λ i x. refl) 0 bs)
+    (plan_moves (at_column c) s w t m (batch_items 0 bs) ended (column_eof c) (column_eof c) (batches_along (at_column c) c (λ i x. refl) 0 bs) (stays (at_column c) c (λ k x. refl))) in
+    let back : IsMoved off_column q p =
+    subst (λ z. IsMoved off_column q (plan s w t m z ended (column_eof c))) (back_moved c 0 bs)
+    (plan_moves off_column s w t m (column_items c 0 bs) ended (column_eof c) (column_eof c) (back_along c 0 bs) (stays off_column c (λ k x. refl))) in
+    (there, near_twice p.numbers q.numbers there.numbers back.numbers)

@@ -1,7 +1,7 @@
 -- Plans at other paths: what is written at a path is written where that is moved.
 use Rattle.std.specs.Prelude.{◌≡◌, ◌⊎◌, ℕ, zero, suc, ◌+◌, List, [], ◌∷◌, ◌++◌}
 use Rattle.vx_model.specs.ChunkData.{ChunkData}
-use Rattle.vx_path.specs.Path.{Eof, raised}
+use Rattle.vx_path.specs.Path.{Eof, raised, inside}
 use Rattle.vx_layout_spec.specs.LayoutTree.{renamed}
 use Rattle.vx_plan.specs.PlanData.{Pair, Item, Plan, Fault, fault, Place, at_start, at_chunk, at_end}
 
@@ -61,6 +61,10 @@ pub record IsMoved (f : Moving) (p q : Plan) : Type 0 where
   pub numbers : AllNear p.numbers q.numbers
   pub reserved : q.reserved ≡ p.reserved
 
+-- all that is counted is the same
+abbrev pub IsMovedAlike : Moving → Plan → Plan → Type 0
+IsMovedAlike f p q = IsMoved f p q × (q.numbers ≡ p.numbers)
+
 -- ---- into a column
 
 -- where a struct's node writes what its column c by itself writes: [0, i] goes to [0, i, c], and [1 + k] to [1 + c, k]
@@ -69,6 +73,17 @@ into_column c [] = []
 into_column c (zero ∷ []) = 0 ∷ []
 into_column c (zero ∷ i ∷ p) = 0 ∷ i ∷ c ∷ p
 into_column c (suc k ∷ p) = (1 + c) ∷ k ∷ p
+
+-- the eof path of column c, [1 + c, 0]
+abbrev pub column_eof : ℕ → Eof
+column_eof c = inside (record { stem = []; last = 1 + c })
+
+-- where it writes what its column c writes by itself from that eof path on: [0, i] goes to [0, i, c], and all behind stays
+abbrev pub at_column : ℕ → Moving
+at_column c [] = []
+at_column c (zero ∷ []) = 0 ∷ []
+at_column c (zero ∷ i ∷ p) = 0 ∷ i ∷ c ∷ p
+at_column c (suc k ∷ p) = suc k ∷ p
 
 -- the column's chunks, chunk i at [0, i, c]
 abbrev pub column_items : ℕ → ℕ → List ChunkData → List Item
