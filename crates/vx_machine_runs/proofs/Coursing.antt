@@ -4,7 +4,7 @@ use Rattle.std.specs.Cmp.Lexicographic.{bytes_decides}
 use Rattle.std.proofs.lemmas.Bool.{true≢false}
 use Rattle.vx_model.specs.ChunkData.{ChunkData}
 use Rattle.vx_path.specs.Lists.{In}
-use Rattle.vx_path.proofs.Lists.{in_cases}
+use Rattle.vx_path.proofs.Lists.{in_cases, from_map}
 use Rattle.vx_path.specs.Path.{Eof, Scattered, meets}
 use Rattle.vx_machine_state.specs.Images.{Careful}
 use Rattle.vx_layout_spec.specs.LayoutTree.{renamed}
@@ -20,7 +20,7 @@ use Rattle.vx_plan.proofs.Fronts.{scattered_sorted}
 use Rattle.vx_plan.proofs.Numbering.{in_paths, clash}
 use Rattle.vx_plan.proofs.Spots.{scattered_left}
 use Rattle.vx_machine_turns.specs.Acts.{refuses, written_by}
-use Rattle.vx_machine_turns.specs.Source.{stream_plan}
+use Rattle.vx_machine_turns.specs.Source.{seed_at, stream_plan}
 use Rattle.vx_machine_turns.specs.Readings.{number_reading}
 use Rattle.vx_machine_steps.specs.Tree.{read, opened, counts}
 use Rattle.vx_machine_steps.specs.Moves.{TreeMove, tree_moves, all_paths, all_over}
@@ -31,9 +31,10 @@ use Rattle.vx_machine_promises.specs.Write.{Write, Future, Open, Answer, unasked
 use Rattle.vx_machine_promises.specs.Reached.{ReachedAt, moves_at, pick_at, Stepped}
 use Rattle.vx_machine_promises.specs.Promises.{StartIsReachedAt, StepIsReachedAt, StateStandsAt, SomethingIsReadyAt, WorkFallsAt, HistoryIsFirstAt, PathsAreApartAt, EndedBy, EndIsPlannedAt, RefusalsHaveCauseAt, CountedBy, MovesAreCountedAt, StartIsCountedAt}
 use Rattle.vx_machine_state.specs.Reserved.{reserved_by}
-use Rattle.vx_machine_view.specs.Machine.{WholeStep, whole_steps, is_finished, machine_ids}
+use Rattle.vx_machine_state.specs.Moves.{Step, steps}
+use Rattle.vx_machine_view.specs.Machine.{reading, Machine, WholeStep, may_source, source_step, in_root, whole_steps, is_finished, machine_ids}
 use Rattle.vx_machine_view.specs.Places.{whole_ready}
-use Rattle.vx_machine_view.specs.Whole.{form_of, Asks, outset_from, SameHeld, ShowsMachineAt, SameWholeAt}
+use Rattle.vx_machine_view.specs.Whole.{form_of, root_depth, Asks, outset_from, SameHeld, ShowsMachineAt, SameWholeAt}
 use Rattle.vx_machine_view.proofs.Ending.{held_shows_at, moves_shows_at, finish_shows_at, layout_shows_at}
 use Rattle.vx_machine_view.proofs.Placing.{whole_is_ready}
 use Rattle.vx_machine_view.proofs.Reserving.{start_reserves_at, whole_reserves_at}
@@ -44,11 +45,12 @@ use Rattle.vx_machine_view.proofs.Words.{same_some}
 use Rattle.vx_machine_runs.specs.Ends.{Caused}
 use Rattle.vx_machine_runs.specs.Tracked.{Comes}
 use Rattle.vx_machine_runs.specs.Runs.{Asking, TypedAnswer, BeforeEnd, PickedBy}
-use Rattle.vx_machine_runs.specs.Courses.{Point, start_point, point_after, Goes, GoesBy, HasComeTo, tracked_at, Numbered, StandsIn, ForFutures, LeavesIn, CourseIsUnderway, CourseIsReady, CourseIsFront, CourseGoesOn, FinishedBy, CourseEnds, CausedThere, CourseHasCause, CourseStartHasCause}
+use Rattle.vx_machine_runs.specs.Courses.{Point, start_point, point_after, Goes, GoesBy, HasComeTo, tracked_at, Numbered, StandsIn, ForFutures, LeavesIn, CourseIsUnderway, CourseIsReady, CourseIsFront, CourseGoesOn, FinishedBy, CourseEnds, CausedThere, CourseHasCause, CourseMisfitIsRead, CourseStartHasCause}
 use Rattle.vx_machine_runs.proofs.Asking.{is_past, Tells, step_tells, before_end}
 use Rattle.vx_machine_runs.proofs.Counting.{nth_in}
 use Rattle.vx_machine_runs.proofs.Doing.{did, counted_in, move_did, opened_first_at}
 use Rattle.vx_machine_runs.proofs.Ending.{none_later, open_none}
+use Rattle.vx_machine_runs.proofs.Misfits.{steps_fit, source_misfit, at_place}
 use Rattle.vx_machine_runs.proofs.Sounding.{past_most}
 use Rattle.vx_machine_runs.proofs.Stepping.{open_before, asks_by, picks_more}
 
@@ -496,6 +498,35 @@ course_has_cause starts reached stands falls first apart refusals moved_counts g
         joined_by j (inl e) = inl e
         joined_by j (inr q) = inr ((at_start_at g (outset_from stream eof) x.taken (before told f) notes x.history (tracked_at g x) s.reached can_before).numbers j
             (subst (In j) (reads_at g (outset_from stream eof) x.taken (before told f) notes x.history (tracked_at g x) s.reached can_before number_reading) q))
+
+pub course_misfit_is_read : ((o : Outset) → StartIsReachedAt o) → ((o : Outset) → StepIsReachedAt o) → ((o : Outset) → StateStandsAt o) → ((o : Outset) → WorkFallsAt o) → ((o : Outset) → HistoryIsFirstAt o)
+    → ((o : Outset) → PathsAreApartAt o) → CourseMisfitIsRead
+course_misfit_is_read starts reached stands falls first apart g stream eof notes x told number k w h can at mis =
+    by (under_way starts reached stands falls first apart g stream eof notes x h (none_later x.heard) (open_none x.heard) can_none)
+  where
+    Read : Type 0
+    Read = (e : Eof) × (x.machine.phase ≡ reading e) × (k ≡ 0) × (told ≡ unasked)
+
+    can_none : CanBegin (outset_from stream eof) (length (x.taken ++ []))
+    can_none = subst (λ bs. CanBegin (outset_from stream eof) (length bs)) (sym (append-nil x.taken)) can
+
+    by : StandsIn g (outset_from stream eof) notes x (none_later x.heard) → Read
+    by s = at_it (at_place (may_source x.machine.phase x.machine.root) (source_step told x.machine.phase x.machine.root)
+        (map (in_root x.machine.phase) (steps g.setting (machine_ids x.machine) number x.machine.root)) k w at)
+      where
+        sh : ShowsMachineAt g (outset_from stream eof) (number_in x.history x.numbers) x.machine (none_later x.heard) s.reached.tree
+        sh = shown reached stands falls first apart g (outset_from stream eof) h.careful notes x (none_later x.heard) (comes_long g notes (start_point g stream eof) x h.comes refl) can_none s.reached s.shows
+
+        of_source : (e : Eof) × (x.machine.phase ≡ reading e) × (told ≡ unasked) → k ≡ 0 → Read
+        of_source (e, p, q) z = (e, p, z, q)
+
+        of_root : (y : Step) × In y (steps g.setting (machine_ids x.machine) number x.machine.root) × (w ≡ in_root x.machine.phase y) → Read
+        of_root (y, i, e) = absurd (true≢false (sym mis ∙ ap (λ (z : WholeStep). z.misfit) e
+            ∙ steps_fit g.setting (number_in x.history x.numbers) number (machine_ids x.machine) (root_depth g) (seed_at (form_of g) g.mark (outset_from stream eof)) 0 x.machine.root sh.kids sh.root y i))
+
+        at_it : ((k ≡ 0) × (source_step told x.machine.phase x.machine.root ≡ w)) ⊎ In w (map (in_root x.machine.phase) (steps g.setting (machine_ids x.machine) number x.machine.root)) → Read
+        at_it (inl (z, e)) = of_source (source_misfit told x.machine.phase x.machine.root (ap (λ (v : WholeStep). v.misfit) e ∙ mis)) z
+        at_it (inr i) = of_root (from_map (in_root x.machine.phase) w (steps g.setting (machine_ids x.machine) number x.machine.root) i)
 
 pub course_start_has_cause : ((o : Outset) → StartIsCountedAt o) → CourseStartHasCause
 course_start_has_cause counted g stream eof f n can i big =

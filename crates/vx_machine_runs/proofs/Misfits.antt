@@ -208,7 +208,7 @@ module _ (s : Setting) (number : List ℕ → ℕ) (next : ℕ) (all : List (Lis
 
   -- ---- of all tasks
 
-  steps_fit : (d : Fuel) (q : Seed) (j : ℕ) (cs : Tasks) (t : Tree) → Shows s number d q j cs t → (w : Step) → In w (steps s all next cs) → w.misfit ≡ false
+  pub steps_fit : (d : Fuel) (q : Seed) (j : ℕ) (cs : Tasks) (t : Tree) → Shows s number d q j cs t → (w : Step) → In w (steps s all next cs) → w.misfit ≡ false
   steps_fit d q j no_tasks t sh w i = absurd i
   steps_fit d q j (task_then c ks more) Leaf sh w i = absurd sh
   steps_fit d q j (task_then c ks more) (Work h hs r) sh w i =
@@ -251,7 +251,7 @@ module _ (s : Setting) (number : List ℕ → ℕ) (next : ℕ) (all : List (Lis
 
 -- ---- the whole machine
 
-source_misfit : (a : Answer) (p : Phase) (root : Tasks) → (source_step a p root).misfit ≡ true → (e : Eof) × (p ≡ reading e) × (a ≡ unasked)
+pub source_misfit : (a : Answer) (p : Phase) (root : Tasks) → (source_step a p root).misfit ≡ true → (e : Eof) × (p ≡ reading e) × (a ≡ unasked)
 source_misfit unasked (reading e) root h = (e, refl, refl)
 source_misfit (came b) (reading e) root h = absurd (true≢false (sym h))
 source_misfit over (reading e) root h = absurd (true≢false (sym h))

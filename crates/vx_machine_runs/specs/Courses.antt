@@ -18,12 +18,12 @@ use Rattle.vx_plan.specs.Valid.{Fit, IsPast}
 use Rattle.vx_machine_turns.specs.Source.{stream_plan}
 use Rattle.vx_machine_steps.specs.Tree.{counts}
 use Rattle.vx_machine_steps.specs.Runs.{picks_after}
-use Rattle.vx_machine_promises.specs.Write.{Write, Future, Open, Answer, begin_at, scripts_at, planned_at, taken_by, heard_by, before}
+use Rattle.vx_machine_promises.specs.Write.{Write, Future, Open, Answer, unasked, begin_at, scripts_at, planned_at, taken_by, heard_by, before}
 use Rattle.vx_machine_promises.specs.Reached.{ReachedAt}
 use Rattle.vx_machine_state.specs.Acts.{layouts_in}
 use Rattle.vx_machine_state.specs.Reserved.{reserved_by}
 use Rattle.vx_machine_state.specs.Start.{first_indices}
-use Rattle.vx_machine_view.specs.Machine.{Machine, start_from, WholeStep, whole_steps, is_finished, machine_ids}
+use Rattle.vx_machine_view.specs.Machine.{reading, Machine, start_from, WholeStep, whole_steps, is_finished, machine_ids}
 use Rattle.vx_machine_view.specs.Places.{whole_ready}
 use Rattle.vx_machine_view.specs.Whole.{form_of, outset_from, ShowsMachineAt}
 use Rattle.vx_machine_runs.specs.Ends.{Caused}
@@ -162,6 +162,11 @@ abbrev pub CourseHasCause : Type 0
 CourseHasCause = (g : Write) (stream eof : Eof) (notes : List Note) (x : Point) (told : Answer) (number k : ℕ) (w : WholeStep) (f : Future) → HasComeTo g stream eof notes x → ChosenAt g x told number k w
     → Open (heard_by x.heard told) f → CanBegin (outset_from stream eof) (length (taken_by x.taken told ++ f.later))
     → CausedThere g (outset_from stream eof) notes x (taken_by x.taken told) f k w
+
+-- a step that finds a chunk of another type is the one in which the source reads, and is told nothing
+abbrev pub CourseMisfitIsRead : Type 0
+CourseMisfitIsRead = (g : Write) (stream eof : Eof) (notes : List Note) (x : Point) (told : Answer) (number k : ℕ) (w : WholeStep) → HasComeTo g stream eof notes x → CanBegin (outset_from stream eof) (length x.taken)
+    → nth (whole_steps g.setting (machine_ids x.machine) number told x.machine) k ≡ Some w → w.misfit ≡ true → (e : Eof) × (x.machine.phase ≡ reading e) × (k ≡ 0) × (told ≡ unasked)
 
 -- how far pointers come at the start: what doesn't fit 64 bits is on its way to one of the plan's numbers
 abbrev pub CourseStartHasCause : Type 0

@@ -3,7 +3,7 @@
 #![tactic(auto)]
 
 ghost use Rattle.vx_machine_runs.specs.Runs.{StartIsUnderway, StepIsUnderway, RunByIsUnderway, PlacesArePicks, RunIsUnderway, ScheduleIsFree, NumberIsFree};
-ghost use Rattle.vx_machine_runs.specs.Courses.{CourseIsUnderway, CourseIsReady, CourseIsFront, CourseGoesOn, CourseEnds, CourseHasCause, CourseStartHasCause, CourseIsCounted, CourseFits};
+ghost use Rattle.vx_machine_runs.specs.Courses.{CourseIsUnderway, CourseIsReady, CourseIsFront, CourseGoesOn, CourseEnds, CourseHasCause, CourseMisfitIsRead, CourseStartHasCause, CourseIsCounted, CourseFits};
 ghost use Rattle.vx_machine_runs.specs.Ends.{StaysReady, EndsWhole, StepsHaveCause};
 ghost use Rattle.vx_machine_runs.specs.Steps.{IdleIsFinished, MisfitIsRead, HistoryIsFront, AppendIsOneMore, PastIsCaused, StartIsCaused, ValidIsSound, ValidStarts};
 ghost use Rattle.vx_machine_runs.specs.Answers.{AskedBeforeEnd, AnswersAreNoted, TakenAreTyped, TakenAreWhole};
@@ -39,6 +39,7 @@ pub fn courses()
 pub fn course_ends()
     ensures ends { CourseEnds }
     ensures causes { CourseHasCause }
+    ensures misfits { CourseMisfitIsRead }
     ensures starts { CourseStartHasCause }
 {
     vx_machine_promises::anywhere();

@@ -1,4 +1,4 @@
-use Rattle.vx_machine_runs.proofs.Coursing.{ends_as_planned, course_has_cause, course_start_has_cause}
+use Rattle.vx_machine_runs.proofs.Coursing.{ends_as_planned, course_has_cause, course_misfit_is_read, course_start_has_cause}
 use Rattle.vx_machine_runs.proofs.course_ends.Goals as goal
 
 pub returns-clause-ends : goal.returns-clause-ends
@@ -9,3 +9,6 @@ returns-clause-causes c = let a = c.anywhere.ensures in course_has_cause a.start
 
 pub returns-clause-starts : goal.returns-clause-starts
 returns-clause-starts c = course_start_has_cause c.anywhere.ensures.starts
+
+pub returns-clause-misfits : goal.returns-clause-misfits
+returns-clause-misfits c = let a = c.anywhere.ensures in course_misfit_is_read a.start a.step a.stands a.falls a.front a.apart
