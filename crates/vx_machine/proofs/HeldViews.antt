@@ -63,7 +63,7 @@ counted_in p (q ∷ qs) h = ⊎_elim
     (λ f. inr (counted_in p qs (let o : one (same p q) ≡ 0 = ap one f in omega (arith, o, h))))
     (cases_Bool (same p q))
 
-any_in : (p : List ℕ) (qs : List (List ℕ)) → list_any (eq_by_cmp path_cmp p) qs ≡ true → In p qs
+pub any_in : (p : List ℕ) (qs : List (List ℕ)) → list_any (eq_by_cmp path_cmp p) qs ≡ true → In p qs
 any_in p [] h = absurd (true≢false (sym h))
 any_in p (q ∷ qs) h = ⊎_elim
     (λ t. inl (same_true p q t))
@@ -74,7 +74,7 @@ or_true : (b : Bool) → (b || true) ≡ true
 or_true true = refl
 or_true false = refl
 
-in_any : (p : List ℕ) (qs : List (List ℕ)) → In p qs → list_any (eq_by_cmp path_cmp p) qs ≡ true
+pub in_any : (p : List ℕ) (qs : List (List ℕ)) → In p qs → list_any (eq_by_cmp path_cmp p) qs ≡ true
 in_any p [] i = absurd i
 in_any p (q ∷ qs) (inl e) = ap (λ b. b || list_any (eq_by_cmp path_cmp p) qs) (subst (λ r. same p r ≡ true) e (same_refl p))
 in_any p (q ∷ qs) (inr i) = ap (λ b. same p q || b) (in_any p qs i) ∙ or_true (same p q)
@@ -186,14 +186,14 @@ machine_held p m =
 
 -- what is active in all is what it holds
 module _ (u : Active) (m : Machine) (exact : Exact u (machine_stock m)) where
-  active_held : (p : List ℕ) → In p (fin.keys u) → In p (whole.machine_ids (machine_of m))
+  pub active_held : (p : List ℕ) → In p (fin.keys u) → In p (whole.machine_ids (machine_of m))
   active_held p i =
       let a : active_at u p ≡ 1 = ap one (fin.contains_key-keys u p ∙ in_any p (fin.keys u) i) in
       let b : active_at u p ≡ held (machine_stock m) p = exact p in
       let c : count p (whole.machine_ids (machine_of m)) ≡ held (machine_stock m) p = machine_held p m in
       counted_in p (whole.machine_ids (machine_of m)) (omega (arith, a, b, c))
 
-  held_active : (p : List ℕ) → In p (whole.machine_ids (machine_of m)) → In p (fin.keys u)
+  pub held_active : (p : List ℕ) → In p (whole.machine_ids (machine_of m)) → In p (fin.keys u)
   held_active p i =
       let a : 1 ≤ count p (whole.machine_ids (machine_of m)) = in_counted p (whole.machine_ids (machine_of m)) i in
       let b : active_at u p ≡ held (machine_stock m) p = exact p in

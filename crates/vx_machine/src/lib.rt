@@ -5,6 +5,7 @@
 mod machine;
 mod running;
 mod source;
+mod stepping;
 
 pub use machine::Machine;
 pub use running::run;

@@ -12,7 +12,8 @@ ghost use Rattle.vx_sink.specs.ContextView.{counted};
 ghost use Rattle.vx_machine_node.specs.Ledger.{told_by};
 ghost use Rattle.vx_machine.specs.Whole.{machine_stock, machine_reserved, StepMay};
 
-use crate::machine::{Machine, count_ready};
+use crate::machine::Machine;
+use crate::stepping::count_ready;
 use vx_layout_tree::Layout;
 use vx_order::Order;
 use vx_sink::{BatchSource, CompressorPlugin, LayoutWriterContext};
@@ -69,13 +70,9 @@ pub fn run<B: BatchSource, O: Order, C: CompressorPlugin>(
         if machine.finished() {
             return Ok(Some(machine.finish()));
         }
-        let Ok(ready) = count_ready(
-            machine.alloc,
-            &machine.phase,
-            &machine.root,
-            order,
-            &mut machine.counts,
-        ) else {
+        let lent = &mut machine;
+        let Ok(ready) = count_ready(lent.alloc, &lent.phase, &lent.root, order, &mut lent.counts)
+        else {
             machine.refuse(ctx, order);
             return Err(WriteError::OutOfMemory);
         };

@@ -6,7 +6,7 @@ use Rattle.vx_strategy.specs.StrategyView.{strategy_data}
 use Rattle.vx_machine_tasks.specs.Starting.{Started, FormRefused}
 use Rattle.vx_machine_node.specs.View.{form_at, form_of}
 use Rattle.vx_machine_tasks.proofs.StartCauses.{memory_start}
-use Rattle.vx_machine.proofs.machine.start_root.Goals as goal
+use Rattle.vx_machine.proofs.stepping.start_root.Goals as goal
 
 pub returns-in-Ok-clause-shows : goal.returns-in-Ok-clause-shows
 returns-in-Ok-clause-shows g c =
