@@ -1,5 +1,5 @@
 -- What is noted of a run is what the theory notes.
-use Rattle.std.proofs.Common.{◌≡◌, ◌+◌, ◌%◌, ◌⊎◌, ◌∷◌, ◌++◌, ◌∙◌, ℕ, zero, suc, true, List, map, length, refl, sym, ap, subst, inl, inr, arith, append-nil, Some, [], ⊎_elim}
+use Rattle.std.proofs.Common.{◌≡◌, ◌+◌, ◌%◌, ◌⊎◌, ◌∷◌, ◌++◌, ◌∙◌, ℕ, zero, suc, true, List, map, length, refl, sym, ap, subst, inl, inr, arith, append-nil, Some, []}
 use Rattle.vx_path.specs.Lists.{In}
 use Rattle.vx_tasks.specs.State.{left}
 use Rattle.vx_tasks.specs.Run.{all_moves, ready, work, Leads, first_pick, later_picks, nth, run, note}
@@ -94,6 +94,13 @@ stops s d e picks k st (inl z) = run_done (forest s d e) (counts e) picks k (non
 stops s d e picks zero st (inr x) = refl
 stops s d e picks (suc k) st (inr (m, n, r)) = run_refused (forest s d e) (counts e) picks k (view m) (picked_is s d e picks m st n) r
 
+-- the same of the scripts at the start
+stops_at : (s : Setting) (d : Fuel) (t e : Tree) (picks : List ℕ) (k : ℕ) → Stands s d e → forest s d e ≡ forest s d t
+    → (left (forest s d t) (counts e) ≡ 0) ⊎ ((m : TreeMove) × (nth (machine_moves s d e) (pick_of s d e picks) ≡ Some m) × (refuses m.act ≡ true))
+    → run (forest s d t) (counts e) picks k ≡ []
+stops_at s d t e picks k st same (inl z) = subst (λ f. run f (counts e) picks k ≡ []) same (stops s d e picks k st (inl (ap (λ f. left f (counts e)) same ∙ z)))
+stops_at s d t e picks k st same (inr x) = subst (λ f. run f (counts e) picks k ≡ []) same (stops s d e picks k st (inr x))
+
 pub notes_end : NotesEnd
 notes_end s d t e picks ms st zero_is w ends =
     let r : Runs s d t ms e = runs_by s d t e picks ms w in
@@ -103,8 +110,6 @@ notes_end s d t e picks ms st zero_is w ends =
     let c : left (forest s d t) (counts t) ≡ work (forest s d t) = ap (left (forest s d t)) zero_is in
     let n : length ms + left (forest s d t) (counts e) ≡ work (forest s d t) = omega (arith, l, v, c) in
     let z : run (forest s d t) (counts e) (picks_after (length ms) picks) (left (forest s d t) (counts e)) ≡ [] =
-    subst (λ f. run f (counts e) (picks_after (length ms) picks) (left (forest s d t) (counts e)) ≡ []) x.1
-    (stops s d e (picks_after (length ms) picks) (left (forest s d t) (counts e)) x.2
-    (⊎_elim (λ a. inl (ap (λ f. left f (counts e)) x.1 ∙ a)) (λ a. inr a) ends)) in
+    stops_at s d t e (picks_after (length ms) picks) (left (forest s d t) (counts e)) x.2 x.1 ends in
     sym (ap (λ y. map note (run (forest s d t) y picks (work (forest s d t)))) (sym zero_is) ∙ ap (λ y. map note (run (forest s d t) (counts t) picks y)) (sym n)
     ∙ goes_on s d t e picks ms (left (forest s d t) (counts e)) st w ∙ ap (λ y. notes s d t picks ms ++ map note y) z ∙ append-nil (notes s d t picks ms))
