@@ -71,7 +71,7 @@ impl LayoutDisplay for Layout {
         match check_built(self) {
             Ok(()) => {}
             Err(LayoutError::OutOfMemory) => return Err(AllocError),
-            Err(error) => return error_line(alloc, &error),
+            Err(error) => return error_line(alloc, error),
         }
         let style = Style {
             alloc,
@@ -96,7 +96,7 @@ impl LayoutDisplay for Layout {
         match check_built(self) {
             Ok(()) => {}
             Err(LayoutError::OutOfMemory) => return Err(ReadError::OutOfMemory),
-            Err(error) => return Ok(error_line(alloc, &error)?),
+            Err(error) => return Ok(error_line(alloc, error)?),
         }
         let style = Style {
             alloc,
@@ -124,10 +124,11 @@ fn whole_tree(style: &Style, layout: &Layout) -> Result<Text, Stop>
 }
 
 #[tactic(auto, using(crate::proofs::NodeSteps::text_rules))]
-fn error_line(alloc: Global, error: &LayoutError) -> Result<Text, AllocError>
-    ensures { IfOk result (λ text. text ≡ codes "Error building layout tree: " ++ (error_name error.now ++ codes "\n")) }
+fn error_line(alloc: Global, error: LayoutError) -> Result<Text, AllocError>
+    ensures { IfOk result (λ text. text ≡ codes "Error building layout tree: " ++ (error_name error ++ codes "\n")) }
 {
     let name = error.name();
+    drop(error);
     Ok(Text::from(format!(in alloc; "Error building layout tree: {name}\n")?))
 }
 

@@ -51,7 +51,10 @@ fn child_at(layout: &Layout, i: u64) -> Result<LayoutChild<'_>, Stop>
     match layout.child(i) {
         Ok(child) => Ok(child),
         Err(LayoutError::OutOfMemory) => Err(Stop::OutOfMemory),
-        Err(_) => Err(Stop::Refused),
+        Err(error) => {
+            drop(error);
+            Err(Stop::Refused)
+        }
     }
 }
 
