@@ -55,6 +55,9 @@ fn built_child(layout: &Layout, i: u64) -> Result<Option<LayoutChild<'_>>, Alloc
     match layout.child(i) {
         Ok(child) => Ok(Some(child)),
         Err(LayoutError::OutOfMemory) => Err(AllocError),
-        Err(_) => Ok(None),
+        Err(error) => {
+            drop(error);
+            Ok(None)
+        }
     }
 }

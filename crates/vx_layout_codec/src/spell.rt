@@ -36,7 +36,9 @@ pub fn layout_bytes(
     let ctx = IndexedContext::new(alloc, ctx)?;
     check_permitted(alloc, layout, &ctx)?;
     let node = node_of(alloc, layout, &ctx)?;
-    Ok(write_node(alloc, &node)?)
+    let bytes = write_node(alloc, &node);
+    drop(node);
+    Ok(bytes?)
 }
 
 /// The node that the layout is. An id that the context doesn't list is taken as the first one.
