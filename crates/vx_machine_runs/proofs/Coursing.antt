@@ -32,7 +32,7 @@ use Rattle.vx_machine_promises.specs.Reached.{ReachedAt, moves_at, pick_at, Step
 use Rattle.vx_machine_promises.specs.Promises.{StartIsReachedAt, StepIsReachedAt, StateStandsAt, SomethingIsReadyAt, WorkFallsAt, HistoryIsFirstAt, PathsAreApartAt, EndedBy, EndIsPlannedAt, RefusalsHaveCauseAt, CountedBy, MovesAreCountedAt, StartIsCountedAt}
 use Rattle.vx_machine_state.specs.Reserved.{reserved_by}
 use Rattle.vx_machine_state.specs.Moves.{Step, steps}
-use Rattle.vx_machine_view.specs.Machine.{reading, Machine, WholeStep, may_source, source_step, in_root, whole_steps, is_finished, machine_ids}
+use Rattle.vx_machine_view.specs.Machine.{reading, WholeStep, may_source, source_step, in_root, whole_steps, is_finished, machine_ids}
 use Rattle.vx_machine_view.specs.Places.{whole_ready}
 use Rattle.vx_machine_view.specs.Whole.{form_of, root_depth, Asks, outset_from, SameHeld, ShowsMachineAt, SameWholeAt}
 use Rattle.vx_machine_view.proofs.Ending.{held_shows_at, moves_shows_at, finish_shows_at, layout_shows_at}
