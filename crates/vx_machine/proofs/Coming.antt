@@ -146,6 +146,7 @@ module _ (on : CourseGoesOn) (g : Write) (stream eof : Eof) (ns : List Note) (x 
         note = it;
         shows = (counted, refl, w.name_is, w.kind);
         goes = goes;
+        counted = w.counted;
         comes = record { come = led.0; machine_is = w.left };
         tells = w.tells;
         sink = w.outlet;

@@ -203,6 +203,12 @@ module _ (u : Active) (m : Machine) (exact : Exact u (machine_stock m)) where
       (λ f. let z : active_at u p ≡ 0 = ap one f in absurd (omega (arith, a, b, c, z)))
       (cases_Bool (fin.contains_key u p))
 
+  pub is_held : (p : List ℕ) → fin.contains_key u p ≡ true → In p (whole.machine_ids (machine_of m))
+  is_held p t = active_held p (any_in p (fin.keys u) (sym (fin.contains_key-keys u p) ∙ t))
+
+  pub is_active : (p : List ℕ) → In p (whole.machine_ids (machine_of m)) → fin.contains_key u p ≡ true
+  is_active p i = fin.contains_key-keys u p ∙ in_any p (fin.keys u) (held_active p i)
+
   -- so the steps are the same
   pub held_steps : (s : Setting) (number : ℕ) (a : Answer) → whole.whole_steps s (fin.keys u) number a (machine_of m) ≡ whole.whole_steps s (whole.machine_ids (machine_of m)) number a (machine_of m)
   held_steps s number a =

@@ -19,7 +19,7 @@ use Rattle.vx_machine_view.specs.Whole.{outset_from}
 use Rattle.vx_machine_runs.specs.Courses.{Point, start_point, Goes, HasComeTo, ForFutures, LeavesIn}
 use Rattle.vx_machine_nodes.specs.Acting.{Behind}
 use Rattle.vx_machine_node.specs.Context.{Allowed}
-use Rattle.vx_machine_node.specs.Outcome.{action_of}
+use Rattle.vx_machine_node.specs.Outcome.{action_of, AllFit}
 use Rattle.vx_machine.specs.SourceActs.{Tells}
 
 -- a step shows a note: how many tasks were ready, the place that was picked, the task and its act
@@ -70,6 +70,7 @@ pub record LeadsOn (g : Write) (stream eof : Eof) (notes : List Note) (x : Point
   pub note : Note
   pub shows : ShowsNote s note
   pub goes : Goes g x point note
+  pub counted : AllFit (goes.step.numbers ++ goes.step.indices)
   pub comes : HasCome g stream eof (notes ++ (note ∷ [])) point new
   -- what the source told in it, and what the sink was told, which gave this number
   pub tells : Tells g.type to_come to_come_then goes.told
