@@ -4,6 +4,8 @@
 #[cfg(test)]
 mod bytes;
 #[cfg(test)]
+mod finds;
+#[cfg(test)]
 mod fixtures;
 #[cfg(test)]
 mod ids;

@@ -41,6 +41,13 @@ impl Answer {
         write!(self, "{value:?}");
     }
 
+    /// The bytes as hex text.
+    pub fn push_hex(&mut self, bytes: &[u8]) {
+        for byte in bytes {
+            write!(self, "{byte:02x}");
+        }
+    }
+
     /// The value's text, or why there is none.
     pub fn push_given<D: Display + Drop, E: Display + Drop>(&mut self, given: Result<D, E>) {
         match given {

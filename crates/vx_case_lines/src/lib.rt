@@ -1,12 +1,13 @@
-//! What the programs of cases have in common: lines, their parts, and the text of their answers.
+//! What the cases have in common: lines, their parts, bytes as hex text, and the text of answers.
 #![tactic(auto)]
 
+ghost use Rattle.std.specs.Prelude.{◌≡◌, Ok, IfOk};
+ghost use Rattle.hex.specs.Hex.{decode_of};
+
 mod answer;
-mod cases;
 
 pub use answer::Answer;
-use anyhow::Context;
-pub use cases::{Cases, answers};
+use anyhow::Result;
 use std::alloc::{AllocError, Global};
 
 /// Whether the line is a case: it isn't empty and doesn't begin with `#`.
@@ -19,19 +20,26 @@ pub fn cut(text: &str) -> (&str, &str) {
     text.split_once(' ').unwrap_or((text, ""))
 }
 
-/// The first part, and the parts behind it.
-pub fn parts(text: &str) -> anyhow::Result<(&str, &str)> {
-    text.split_once(" / ").context("a part is missing")
-}
-
 /// The first part, and the parts behind it; nothing behind where it is one part alone.
 pub fn halves(text: &str) -> (&str, &str) {
     text.split_once(" / ").unwrap_or((text, ""))
 }
 
+/// What stands before ` = `, and the object behind it.
+pub fn asked(text: &str) -> (&str, &str) {
+    text.split_once(" = ").unwrap_or((text, ""))
+}
+
 /// The number that the text is; 0 where it is none.
 pub fn number(text: &str) -> u64 {
     text.parse::<u64>().unwrap_or(0)
+}
+
+/// The bytes that the hex text is.
+pub fn bytes_of(alloc: Global, digits: &str) -> Result<Vec<u8>>
+    ensures { IfOk result (λ v. decode_of digits.now ≡ Ok v.items) }
+{
+    Ok(hex::decode(alloc, digits)?)
 }
 
 /// The value in a box. One that is wide and lives beside a `?` makes a proof long, and its box doesn't.

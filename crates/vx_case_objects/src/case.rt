@@ -3,8 +3,15 @@
 use crate::parts::dtype_in;
 use serde_json::Value;
 use std::alloc::Global;
-use vx_case_lines::{Answer, cut};
+use vx_case_lines::cut;
 use vx_model::DType;
+
+/// An object, and the type that it says.
+#[derive(Drop)]
+pub struct Typed {
+    pub object: Value,
+    pub dtype: DType,
+}
 
 /// A case whose object says its type (`schema`).
 #[derive(Clone, Copy)]
@@ -16,54 +23,28 @@ pub struct Case<'a> {
     pub dtype: &'a DType,
 }
 
-/// What tells the answer of such a case.
-pub trait TypedCases {
-    fn tell(alloc: Global, answer: &mut Answer, case: Case);
+impl<'a> Case<'a> {
+    /// Of the case of this name, which asks these words of the object.
+    pub fn new(name: &'a str, words: &'a str, typed: &'a Typed) -> Case<'a> {
+        let (word, given) = cut(words);
+        Case {
+            name,
+            word,
+            given,
+            object: &typed.object,
+            dtype: &typed.dtype,
+        }
+    }
 }
 
-/// Of a line that goes on as `WORD GIVEN.. = OBJECT`; where there is no such object, a line that says why.
-pub fn tell_typed<C: TypedCases>(alloc: Global, answer: &mut Answer, name: &str, rest: &str) {
-    let (words, object) = rest.split_once(" = ").unwrap_or((rest, ""));
-    match Value::from_str(alloc, object) {
-        Ok(object) => {
-            tell_object::<C>(alloc, answer, name, words, &object);
+/// The object that the text is, and the type that it says.
+pub fn read_typed(alloc: Global, text: &str) -> anyhow::Result<Typed> {
+    let object = Value::from_str(alloc, text)?;
+    match dtype_in(alloc, &object, "schema") {
+        Ok(dtype) => Ok(Typed { object, dtype }),
+        Err(error) => {
             drop(object);
+            Err(error)
         }
-        Err(error) => answer.push_refusal(name, error),
     }
-}
-
-fn tell_object<C: TypedCases>(
-    alloc: Global,
-    answer: &mut Answer,
-    name: &str,
-    words: &str,
-    object: &Value,
-) {
-    match dtype_in(alloc, object, "schema") {
-        Ok(dtype) => {
-            tell_of::<C>(alloc, answer, name, words, object, &dtype);
-            drop(dtype);
-        }
-        Err(error) => answer.push_refusal(name, error),
-    }
-}
-
-fn tell_of<C: TypedCases>(
-    alloc: Global,
-    answer: &mut Answer,
-    name: &str,
-    words: &str,
-    object: &Value,
-    dtype: &DType,
-) {
-    let (word, given) = cut(words);
-    let case = Case {
-        name,
-        word,
-        given,
-        object,
-        dtype,
-    };
-    C::tell(alloc, answer, case);
 }

@@ -6,6 +6,7 @@ ghost use Rattle.hex.specs.Hex.{decode_of};
 
 use anyhow::{Result, bail, ensure};
 use std::alloc::{AllocError, Global};
+use vx_case_lines::bytes_of;
 
 /// What the program is run on.
 #[derive(Drop)]
@@ -127,7 +128,7 @@ fn input_of(alloc: Global, is_hex: bool, job: &str) -> Result<Vec<u8>>
     ensures decoded { is_hex ≡ true → IfOk result (λ v. decode_of job.now ≡ Ok v.items) }
 {
     if is_hex {
-        Ok(hex::decode(alloc, job)?)
+        bytes_of(alloc, job)
     } else {
         Ok(Vec::from_slice(alloc, job.as_bytes())?)
     }

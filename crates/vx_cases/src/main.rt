@@ -1,12 +1,20 @@
-//! Runs the program on the cases of its input, a line each, and prints what it answers to each.
+//! Answers the cases of its input, a line each. An empty line is skipped, and one that begins with `#`. A line `== KIND` says
+//! what the cases below it are:
 //!
-//! A line is a name, options, and a command with its job, as `one most=7 write {"schema": ..}`; or a name, options and
-//! `words` with the program's words, on the empty input. The options: `most=N`, at most so many bytes a call;
-//! `read_fails=N` and `write_fails=N`, the number of a call that fails, from 0; `hex`, where the job is hex text of
-//! the input's bytes. An empty line is skipped, and one that begins with `#`.
+//! | kind | cases |
+//! |---|---|
+//! | `jobs` | of the program, as those above the first such line |
+//! | `chunks` | of vx_chunk_cases, whose front page says what a line is; and so on |
+//! | `values` | of vx_value_cases |
+//! | `rules` | of vx_rule_cases |
+//! | `layouts` | of vx_layout_cases |
+//! | `files`, `bytes` | of vx_file_cases |
 //!
-//! The answer is a line of the name and the status, and what was written; where that ends without a newline, another
-//! line says so.
+//! A case of the program is a name, options, and a command with its job, as `one most=7 write {"schema": ..}`; or a name,
+//! options and `words` with the program's words, on the empty input. The options: `most=N`, at most so many bytes a call;
+//! `read_fails=N` and `write_fails=N`, the number of a call that fails, from 0; `hex`, where the job is hex text of the
+//! input's bytes. The answer is a line of the name and the status, and what was written; where that ends without a newline,
+//! another line says so.
 #![tactic(auto)]
 
 ghost use Rattle.std.specs.Prelude.{◌≡◌, ◌++◌, OnOk};
@@ -14,11 +22,15 @@ ghost use Rattle.std.specs.Io.KnownBytes.{Appends};
 ghost use Rattle.vx_cases.specs.Ending.{ending};
 
 mod case;
+mod kind;
 
 use anyhow::{Context, Result};
 use case::{Case, cut, parse};
+use kind::Kind;
 use std::alloc::Global;
 use std::io::{self, BufRead, BufReader, BufWriter, Write};
+use std::thread::Threads;
+use vx_case_lines::is_case;
 use vx_run::{ByteInput, ByteOutput, Status, run};
 
 /// How the program ends on a case, and what it has written by then.
@@ -31,7 +43,23 @@ fn outcome(alloc: Global, case: Case) -> (Status, ByteOutput) {
 }
 
 /// Prints the answer to the case of a line.
-fn print_answer<W: Write>(alloc: Global, line: &str, out: &mut W) -> Result<()> {
+fn print_answer<W: Write>(
+    rt: &impl Threads,
+    alloc: Global,
+    kind: Kind,
+    line: &str,
+    out: &mut W,
+) -> Result<()> {
+    if kind == Kind::Jobs {
+        return print_ended(alloc, line, out);
+    }
+    let text = kind.told(rt, alloc, line)?;
+    out.write_all(text.as_bytes())?;
+    Ok(())
+}
+
+/// The same of a case of the program.
+fn print_ended<W: Write>(alloc: Global, line: &str, out: &mut W) -> Result<()> {
     let (name, text) = cut(line);
     let case = parse(alloc, text).context(format_args!("in the line {line}"))?;
     let (status, output) = outcome(alloc, case);
@@ -63,12 +91,14 @@ fn print_output<W: Write>(bytes: &[u8], out: &mut W) -> io::Result<()>
 fn main(rt: HostRuntime) -> Result<()> {
     let alloc = rt.alloc();
     let mut out = BufWriter::new(alloc, io::writer(&rt))?;
+    let mut kind = Kind::Jobs;
     for line in BufReader::new(alloc, rt.reader())?.lines(alloc) {
         let line = line?;
-        if line.is_empty() || line.starts_with('#') {
-            continue;
+        if let Some(name) = line.strip_prefix("== ") {
+            kind = Kind::from_name(name).context("no such kind")?;
+        } else if is_case(&line) {
+            print_answer(&rt, alloc, kind, &line, &mut out)?;
         }
-        print_answer(alloc, &line, &mut out)?;
     }
     out.flush()?;
     Ok(())

@@ -7,8 +7,7 @@ use serde_json::Value;
 use std::alloc::Global;
 use vx_case_lines::Answer;
 use vx_chunk::Chunk;
-use vx_model::DType;
-use vx_segment_reader::{DecodeError, buffer_lengths, tree_buffer_lengths};
+use vx_segment_reader::{buffer_lengths, tree_buffer_lengths};
 
 pub(crate) fn tell(alloc: Global, answer: &mut Answer, word: &str, given: &Value) {
     match word {
@@ -21,45 +20,34 @@ pub(crate) fn tell(alloc: Global, answer: &mut Answer, word: &str, given: &Value
 fn tell_type(alloc: Global, answer: &mut Answer, word: &str, given: &Value) {
     match dtype_in(alloc, given) {
         Ok(dtype) => {
-            tell_type_of(answer, word, &dtype);
+            if word == "nullable" {
+                answer.push_given(dtype.as_nullable());
+            } else {
+                match dtype.as_extension() {
+                    Some(storage) => answer.push(storage),
+                    None => answer.push_str("no extension"),
+                }
+            }
             drop(dtype);
         }
         Err(error) => answer.push(error),
     }
 }
 
-fn tell_type_of(answer: &mut Answer, word: &str, dtype: &DType) {
-    if word == "nullable" {
-        answer.push_given(dtype.as_nullable());
-    } else {
-        match dtype.as_extension() {
-            Some(storage) => answer.push(storage),
-            None => answer.push_str("no extension"),
-        }
-    }
-}
-
 fn tell_lengths(alloc: Global, answer: &mut Answer, word: &str, given: &Value) {
     match bytes_in(alloc, given) {
         Ok(bytes) => {
-            push_lengths(answer, lengths_of(alloc, word, &bytes));
+            let lengths = if word == "tree" {
+                tree_buffer_lengths(alloc, &bytes)
+            } else {
+                buffer_lengths(alloc, &bytes)
+            };
             drop(bytes);
+            match lengths {
+                Ok(lengths) => answer.push_debug(lengths),
+                Err(error) => answer.push(error),
+            }
         }
-        Err(error) => answer.push(error),
-    }
-}
-
-fn lengths_of(alloc: Global, word: &str, bytes: &[u8]) -> Result<Vec<u64>, DecodeError> {
-    if word == "tree" {
-        tree_buffer_lengths(alloc, bytes)
-    } else {
-        buffer_lengths(alloc, bytes)
-    }
-}
-
-fn push_lengths(answer: &mut Answer, lengths: Result<Vec<u64>, DecodeError>) {
-    match lengths {
-        Ok(lengths) => answer.push_debug(lengths),
         Err(error) => answer.push(error),
     }
 }

@@ -3,9 +3,11 @@
 use anyhow::Context;
 use serde_json::Value;
 use std::alloc::Global;
+use vx_case_lines::bytes_of;
 use vx_chunk::Chunk;
 use vx_chunk_json::{read_batch, read_type};
-use vx_model::{ArrayContext, DType, EncodingId};
+use vx_encodings::all_encodings;
+use vx_model::DType;
 use vx_segment_reader::decode_segment;
 
 pub(crate) fn dtype_in(alloc: Global, given: &Value) -> anyhow::Result<DType> {
@@ -16,7 +18,7 @@ pub(crate) fn dtype_in(alloc: Global, given: &Value) -> anyhow::Result<DType> {
 pub(crate) fn bytes_in(alloc: Global, given: &Value) -> anyhow::Result<Vec<u8>> {
     let value = given.get("bytes").context("no batch and no bytes")?;
     let text = value.as_str().context("bytes are a text")?;
-    Ok(hex::decode(alloc, text)?)
+    bytes_of(alloc, text)
 }
 
 /// The batch, or what the bytes are read as.
@@ -36,12 +38,6 @@ fn chunk_of(alloc: Global, given: &Value, dtype: &DType) -> anyhow::Result<Chunk
 
 fn decoded(alloc: Global, given: &Value, dtype: &DType) -> anyhow::Result<Chunk> {
     let bytes = bytes_in(alloc, given)?;
-    let ctx = every_encoding(alloc)?;
+    let ctx = all_encodings(alloc)?;
     Ok(decode_segment(alloc, &ctx, dtype, &bytes)?)
-}
-
-/// The context that lists every encoding.
-pub(crate) fn every_encoding(alloc: Global) -> anyhow::Result<ArrayContext> {
-    let ids = Vec::from_slice(alloc, EncodingId::ALL.as_slice())?;
-    Ok(ArrayContext::try_new(ids)?)
 }

@@ -1,12 +1,12 @@
 //! What calls give that borrow a chunk.
 
-use crate::given::every_encoding;
 use crate::shown::{push_cells_of, push_chunks, push_list, push_made, push_values};
 use anyhow::{Context, bail};
 use std::alloc::{AllocError, Global};
 use vx_case_lines::Answer;
 use vx_chunk::Chunk;
 use vx_chunk::conditions::are_of_type;
+use vx_encodings::all_encodings;
 use vx_model::{DType, Value, is_row_value};
 use vx_segment_writer::encode_segment;
 
@@ -17,8 +17,7 @@ pub(crate) fn tell(alloc: Global, answer: &mut Answer, word: &str, chunk: &Chunk
         "fields" => push_fields(alloc, answer, chunk),
         "lists" => push_lists(alloc, answer, chunk),
         "sizes" => push_sizes(answer, chunk),
-        "segment" => answer.push_given(segment(alloc, chunk, true)),
-        "dense" => answer.push_given(segment(alloc, chunk, false)),
+        "segment" | "dense" => push_segment(alloc, answer, word, chunk),
         _ => push_made(alloc, answer, made(alloc, word, chunk)),
     }
 }
@@ -72,10 +71,8 @@ pub(crate) fn validity(alloc: Global, chunk: &Chunk) -> anyhow::Result<Chunk> {
 /// The rows from the first place to the second.
 fn slice(alloc: Global, chunk: &Chunk, word: &str) -> anyhow::Result<Chunk> {
     let (from, to) = word.split_once("..").context("no such word")?;
-    slice_of(alloc, chunk, from.parse::<u64>()?, to.parse::<u64>()?)
-}
-
-fn slice_of(alloc: Global, chunk: &Chunk, from: u64, to: u64) -> anyhow::Result<Chunk> {
+    let from = from.parse::<u64>()?;
+    let to = to.parse::<u64>()?;
     if from > to || to > chunk.len() {
         bail!("no such rows");
     }
@@ -129,8 +126,17 @@ fn push_sizes(answer: &mut Answer, chunk: &Chunk) {
     answer.push_given(chunk.row_size());
 }
 
-fn segment(alloc: Global, chunk: &Chunk, padding: bool) -> anyhow::Result<String> {
-    let encodings = every_encoding(alloc)?;
-    let bytes = encode_segment(alloc, &encodings, chunk, padding)?;
-    Ok(hex::encode(alloc, bytes.as_slice())?)
+fn push_segment(alloc: Global, answer: &mut Answer, word: &str, chunk: &Chunk) {
+    match segment(alloc, chunk, word == "segment") {
+        Ok(bytes) => {
+            answer.push_hex(&bytes);
+            drop(bytes);
+        }
+        Err(error) => answer.push(error),
+    }
+}
+
+fn segment(alloc: Global, chunk: &Chunk, padding: bool) -> anyhow::Result<Vec<u8>> {
+    let encodings = all_encodings(alloc)?;
+    Ok(encode_segment(alloc, &encodings, chunk, padding)?)
 }

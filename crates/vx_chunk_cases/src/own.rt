@@ -10,17 +10,13 @@ use vx_model::Value;
 
 pub(crate) fn tell(alloc: Global, answer: &mut Answer, word: &str, given: &Json) {
     match chunk_in(alloc, given) {
-        Ok(chunk) => tell_of(alloc, answer, word, chunk),
+        Ok(chunk) => match word {
+            "rows" => push_rows(alloc, answer, chunk.into_rows(alloc)),
+            "cells" => push_own_cells(alloc, answer, chunk.into_cells(alloc)),
+            "fields" => push_fields(alloc, answer, chunk),
+            _ => push_lists(alloc, answer, chunk),
+        },
         Err(error) => answer.push(error),
-    }
-}
-
-fn tell_of(alloc: Global, answer: &mut Answer, word: &str, chunk: Chunk) {
-    match word {
-        "rows" => push_rows(alloc, answer, chunk.into_rows(alloc)),
-        "cells" => push_own_cells(alloc, answer, chunk.into_cells(alloc)),
-        "fields" => push_fields(alloc, answer, chunk),
-        _ => push_lists(alloc, answer, chunk),
     }
 }
 

@@ -12,7 +12,9 @@ use vx_model::{Cell, Value};
 pub(crate) fn push_values(alloc: Global, answer: &mut Answer, values: &[Value]) {
     answer.push_str("[");
     for i in 0..values.len() {
-        push_comma(answer, i > 0);
+        if i > 0 {
+            answer.push_str(",");
+        }
         push_value(alloc, answer, &values[i]);
     }
     answer.push_str("]");
@@ -25,7 +27,7 @@ fn push_value(alloc: Global, answer: &mut Answer, value: &Value) {
         Value::Bool(b) => answer.push(*b),
         Value::Int(n) => answer.push(*n),
         Value::Utf8(text) => answer.push_given(quoted(alloc, text.as_str())),
-        Value::Binary(bytes) => push_hex(alloc, answer, bytes.as_slice()),
+        Value::Binary(bytes) => push_bytes(answer, bytes.as_slice()),
         Value::List(values) | Value::Struct(values) => push_values(alloc, answer, values),
     }
 }
@@ -33,7 +35,9 @@ fn push_value(alloc: Global, answer: &mut Answer, value: &Value) {
 #[cycle(cells)]
 fn push_cells(alloc: Global, answer: &mut Answer, cells: &[Cell]) {
     for i in 0..cells.len() {
-        push_comma(answer, i > 0);
+        if i > 0 {
+            answer.push_str(",");
+        }
         push_cell(alloc, answer, &cells[i]);
     }
 }
@@ -45,7 +49,7 @@ fn push_cell(alloc: Global, answer: &mut Answer, cell: &Cell) {
         Cell::Bool(b) => answer.push(*b),
         Cell::Int(n) => answer.push(*n),
         Cell::Utf8(text) => answer.push_given(quoted(alloc, text.as_str())),
-        Cell::Binary(bytes) => push_hex(alloc, answer, bytes.as_slice()),
+        Cell::Binary(bytes) => push_bytes(answer, bytes.as_slice()),
         Cell::List(valid, cells) => {
             answer.push_str(if *valid { "[" } else { "![" });
             push_cells(alloc, answer, cells);
@@ -59,12 +63,6 @@ fn push_cell(alloc: Global, answer: &mut Answer, cell: &Cell) {
     }
 }
 
-fn push_comma(answer: &mut Answer, later: bool) {
-    if later {
-        answer.push_str(",");
-    }
-}
-
 fn quoted(alloc: Global, text: &str) -> Result<String, AllocError> {
     let json = Json::String(String::from_str(alloc, text)?);
     let text = json.to_string(alloc);
@@ -72,9 +70,9 @@ fn quoted(alloc: Global, text: &str) -> Result<String, AllocError> {
     text
 }
 
-fn push_hex(alloc: Global, answer: &mut Answer, bytes: &[u8]) {
+fn push_bytes(answer: &mut Answer, bytes: &[u8]) {
     answer.push_str("\"");
-    answer.push_given(hex::encode(alloc, bytes));
+    answer.push_hex(bytes);
     answer.push_str("\"");
 }
 

@@ -27,12 +27,6 @@ pub(crate) fn tell_layout(
         "viewed" | "sent" | "again" => tell_viewed(rt, alloc, answer, word, layout),
         "lengths" => tell_lengths(alloc, answer, layout, args),
         "rows" => tell_rows(alloc, answer, layout, args),
-        _ => tell_itself(alloc, answer, word, layout),
-    }
-}
-
-fn tell_itself(alloc: Global, answer: &mut Answer, word: &str, layout: &Layout) {
-    match word {
         "build" | "slots" => tell_slots(alloc, answer, layout),
         "names" => tell_names(alloc, answer, layout),
         "kinds" => tell_kinds(answer, layout),

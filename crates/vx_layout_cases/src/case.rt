@@ -2,39 +2,23 @@
 
 use crate::answers::{tell_alone, tell_layout};
 use crate::parts::layout;
-use std::alloc::{AllocError, Global};
+use std::alloc::Global;
 use std::thread::Threads;
-use vx_case_lines::{Answer, cut, is_case};
+use vx_case_lines::{Answer, asked, cut};
 
-/// The answers of all cases, one a line of the text.
-pub(crate) fn answers(rt: &impl Threads, alloc: Global, text: &str) -> Result<String, AllocError> {
-    let mut answer = Answer::new(alloc);
-    for line in text.lines() {
-        if is_case(line) {
-            tell(rt, alloc, &mut answer, line);
-        }
-    }
-    answer.into_text()
-}
-
-/// The lines of the answer, each behind the name of the case.
-fn tell(rt: &impl Threads, alloc: Global, answer: &mut Answer, line: &str) {
-    let (name, asked) = cut(line);
-    let mut told = Answer::new(alloc);
-    tell_asked(rt, alloc, &mut told, asked);
-    answer.push_lines(name, told);
-}
-
-fn tell_asked(rt: &impl Threads, alloc: Global, answer: &mut Answer, asked: &str) {
-    let (head, given) = asked.split_once(" = ").unwrap_or((asked, ""));
+/// The answer to the case of this name, whose line goes on so.
+pub fn tell(rt: &impl Threads, alloc: Global, answer: &mut Answer, name: &str, rest: &str) {
+    let (head, given) = asked(rest);
     let (word, args) = cut(head);
+    let mut told = Answer::new(alloc);
     if word == "build" {
-        tell_of(rt, alloc, answer, word, args, asked);
+        tell_of(rt, alloc, &mut told, word, args, rest);
     } else if given.is_empty() {
-        tell_alone(alloc, answer, word, args);
+        tell_alone(alloc, &mut told, word, args);
     } else {
-        tell_of(rt, alloc, answer, word, args, given);
+        tell_of(rt, alloc, &mut told, word, args, given);
     }
+    answer.push_lines(name, told);
 }
 
 fn tell_of(

@@ -1,7 +1,8 @@
 //! What children by themselves are.
 
-use std::alloc::{AllocError, Global};
-use vx_case_layouts::{children_in, dtype_in};
+use crate::given::dtype_in;
+use crate::nodes::children_in;
+use std::alloc::Global;
 use vx_case_lines::{Answer, cut};
 use vx_layout::{LayoutChild, LayoutChildren, LayoutChildrenWalk, LayoutError};
 use vx_model::DType;
@@ -10,27 +11,21 @@ use vx_model::DType;
 pub(crate) fn tell_children(alloc: Global, answer: &mut Answer, word: &str, args: &str) {
     let (dtype, text) = cut(args);
     match children_in(alloc, text) {
-        Ok(children) => tell_of(answer, word, children, dtype),
-        Err(error) => answer.push(error),
-    }
-}
-
-fn tell_of(answer: &mut Answer, word: &str, children: LayoutChildren, dtype: &str) {
-    let dtype = dtype_in(dtype);
-    if word == "children_copy" {
-        tell_copy(answer, children.to_arc(), &dtype);
-    } else {
-        tell_each(answer, &children, &dtype);
-    }
-    drop(children);
-    drop(dtype);
-}
-
-fn tell_copy(answer: &mut Answer, copy: Result<LayoutChildren, AllocError>, dtype: &DType) {
-    match copy {
-        Ok(copy) => {
-            tell_each(answer, &copy, dtype);
-            drop(copy);
+        Ok(children) => {
+            let dtype = dtype_in(dtype);
+            if word == "children_copy" {
+                match children.to_arc() {
+                    Ok(copy) => {
+                        tell_each(answer, &copy, &dtype);
+                        drop(copy);
+                    }
+                    Err(error) => answer.push(error),
+                }
+            } else {
+                tell_each(answer, &children, &dtype);
+            }
+            drop(children);
+            drop(dtype);
         }
         Err(error) => answer.push(error),
     }

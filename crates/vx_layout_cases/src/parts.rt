@@ -1,10 +1,15 @@
 //! The layout that a case names, and layouts that kinds build of parts.
 
+use crate::given::{bytes_in, dtype_in};
+use crate::layouts::layout_in;
+use crate::nodes::children_in;
+use crate::scopes::kind_in;
 use anyhow::Result;
 use std::alloc::Global;
-use vx_case_layouts::{build_context, bytes_in, children_in, dtype_in, kind_in, layout_in};
 use vx_case_lines::{cut, number};
-use vx_layout::{Layout, LayoutDeserializeArgs, LayoutEncodingExt, LayoutError, LayoutParts};
+use vx_encodings::all_encodings;
+use vx_layout::{Layout, LayoutDeserializeArgs, LayoutEncodingExt, LayoutParts};
+use vx_session::LayoutBuildContext;
 
 pub(crate) fn layout(alloc: Global, text: &str) -> Result<Layout> {
     match cut(text) {
@@ -20,28 +25,19 @@ fn built(alloc: Global, args: &str) -> Result<Layout> {
     let kind = kind_in(alloc, kind)?;
     let metadata = bytes_in(alloc, metadata)?;
     let args = given(alloc, rest)?;
-    Ok(built_by(alloc, &kind, args, &metadata)?)
+    Ok(kind.build(alloc, args, &metadata)?)
 }
 
+/// The parts, and a context without aggregates.
 fn given(alloc: Global, text: &str) -> Result<LayoutDeserializeArgs> {
-    let context = build_context(alloc)?;
-    let parts = parts(alloc, text)?;
-    Ok(LayoutDeserializeArgs { parts, context })
-}
-
-fn parts(alloc: Global, text: &str) -> Result<LayoutParts> {
     let (dtype, rest) = cut(text);
     let (rows, rest) = cut(rest);
+    let context = LayoutBuildContext {
+        array_ctx: all_encodings(alloc)?,
+        aggregates: Vec::new(alloc),
+        allow_unknown: false,
+    };
     let children = children_in(alloc, rest)?;
-    let segments = Vec::new(alloc);
-    Ok(LayoutParts::new(dtype_in(dtype), number(rows), segments, children))
-}
-
-fn built_by<K: LayoutEncodingExt>(
-    alloc: Global,
-    kind: &K,
-    args: LayoutDeserializeArgs,
-    metadata: &[u8],
-) -> Result<Layout, LayoutError> {
-    kind.build(alloc, args, metadata)
+    let parts = LayoutParts::new(dtype_in(dtype), number(rows), Vec::new(alloc), children);
+    Ok(LayoutDeserializeArgs { parts, context })
 }

@@ -1,30 +1,29 @@
 //! What sessions know, and what layouts are built in.
 
+use crate::scopes::{kind_in, scope, session};
 use anyhow::Result;
-use std::alloc::{AllocError, Global};
-use vx_case_layouts::{kind_in, scope, session};
+use std::alloc::Global;
 use vx_case_lines::{Answer, cut};
-use vx_layout::{LayoutEncoding, LayoutSession, LayoutSessionExt, Scope};
+use vx_layout::{LayoutSession, LayoutSessionExt, Scope};
 
 pub(crate) fn tell_known(alloc: Global, answer: &mut Answer, id: &str) {
     match session(alloc) {
         Ok(session) => {
-            answer.push(is_known(&session, id));
+            answer.push(session.layouts().registry().find(id).is_some());
             drop(session);
         }
         Err(error) => answer.push(error),
     }
 }
 
-fn is_known<S: LayoutSessionExt>(session: &S, id: &str) -> bool {
-    session.layouts().registry().find(id).is_some()
-}
-
 pub(crate) fn tell_registered(alloc: Global, answer: &mut Answer, args: &str) {
     let (kind, id) = cut(args);
     match alone(alloc, kind) {
         Ok(layouts) => {
-            push_found(answer, layouts.registry().find(id));
+            match layouts.registry().find(id) {
+                Some(found) => answer.push(found),
+                None => answer.push_str("nothing"),
+            }
             drop(layouts);
         }
         Err(error) => answer.push(error),
@@ -39,29 +38,18 @@ fn alone(alloc: Global, id: &str) -> Result<LayoutSession> {
     Ok(layouts)
 }
 
-fn push_found(answer: &mut Answer, found: Option<LayoutEncoding>) {
-    match found {
-        Some(found) => answer.push(found),
-        None => answer.push_str("nothing"),
-    }
-}
-
 /// Of a copy.
 pub(crate) fn tell_scope(alloc: Global, answer: &mut Answer, id: &str) {
     match scope(alloc) {
         Ok(scope) => {
-            tell_copy(answer, scope.clone(), id);
+            match scope.clone() {
+                Ok(copy) => {
+                    push_scope(answer, &copy, id);
+                    drop(copy);
+                }
+                Err(error) => answer.push(error),
+            }
             drop(scope);
-        }
-        Err(error) => answer.push(error),
-    }
-}
-
-fn tell_copy(answer: &mut Answer, copy: Result<Scope, AllocError>, id: &str) {
-    match copy {
-        Ok(copy) => {
-            push_scope(answer, &copy, id);
-            drop(copy);
         }
         Err(error) => answer.push(error),
     }

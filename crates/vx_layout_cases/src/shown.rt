@@ -20,19 +20,16 @@ pub(crate) fn tell_slots(alloc: Global, answer: &mut Answer, layout: &Layout) {
 fn push_slot(alloc: Global, answer: &mut Answer, layout: &Layout, slot: u64) {
     match layout.slot_type(alloc, slot) {
         Ok(Some(child)) => {
-            push_child(alloc, answer, &child, layout.slot_to_child(slot));
+            let place = layout.slot_to_child(slot);
+            answer.push_str(" ");
+            answer.push_str(kind_of(&child));
+            push_name(answer, child.name(alloc));
+            write!(answer, " {:?} {place:?},", child.row_offset());
             drop(child);
         }
         Ok(None) => {}
         Err(error) => answer.push(error),
     }
-}
-
-fn push_child(alloc: Global, answer: &mut Answer, child: &LayoutChildType, place: Option<u64>) {
-    answer.push_str(" ");
-    answer.push_str(kind_of(child));
-    push_name(answer, child.name(alloc));
-    write!(answer, " {:?} {place:?},", child.row_offset());
 }
 
 fn kind_of(child: &LayoutChildType) -> &'static str {
@@ -53,7 +50,14 @@ pub(crate) fn tell_names(alloc: Global, answer: &mut Answer, layout: &Layout) {
         write!(answer, " {row:?}");
     }
     for child in layout.child_types(alloc) {
-        push_kind(answer, child);
+        answer.push_str(" ");
+        match child {
+            Ok(child) => {
+                answer.push_str(kind_of(&child));
+                drop(child);
+            }
+            Err(error) => answer.push(error),
+        }
     }
 }
 
@@ -68,19 +72,11 @@ fn push_name(answer: &mut Answer, name: Result<Text, AllocError>) {
     }
 }
 
-fn push_kind(answer: &mut Answer, child: Result<LayoutChildType, AllocError>) {
-    answer.push_str(" ");
-    match child {
-        Ok(child) => {
-            answer.push_str(kind_of(&child));
-            drop(child);
-        }
-        Err(error) => answer.push(error),
-    }
-}
-
+/// First the id where the layout is chunked.
 pub(crate) fn tell_kinds(answer: &mut Answer, layout: &Layout) {
-    answer.push_str(taken_as(layout, LayoutKind::Chunked));
+    if layout.is(LayoutKind::Chunked) {
+        answer.push_str(layout.as_(LayoutKind::Chunked).encoding_id());
+    }
     answer.push_str(" ");
     answer.push(layout.as_opt(LayoutKind::Chunked).is_some());
     answer.push_str(" ");
@@ -91,13 +87,4 @@ pub(crate) fn tell_kinds(answer: &mut Answer, layout: &Layout) {
     answer.push(layout.is_indivisible());
     answer.push_str(" ");
     answer.push(layout.dtype());
-}
-
-/// The id of the layout where it is of the kind.
-fn taken_as(layout: &Layout, kind: LayoutKind) -> &str {
-    if layout.is(kind) {
-        layout.as_(kind).encoding_id()
-    } else {
-        ""
-    }
 }

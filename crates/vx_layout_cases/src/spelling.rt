@@ -1,13 +1,16 @@
 //! Layouts, nodes and metadata as bytes.
 
 use crate::children::tell_places;
+use crate::given::bytes_in;
+use crate::nodes::node_in;
+use crate::scopes::{ids, session};
 use crate::shown::tell_slots;
 use anyhow::{Result, bail};
 use bytes::Bytes;
 use std::alloc::{AllocError, Global};
 use std::thread::Threads;
-use vx_case_layouts::{bytes_in, encodings, ids, node_in, session};
 use vx_case_lines::{Answer, cut};
+use vx_encodings::all_encodings;
 use vx_layout::{
     DictLayoutMetadata, FlatLayoutMetadata, Layout, LayoutContext, LegacyStatsMetadata, Limits,
     ListLayoutMetadata, RawNode, Session, ZonedMetadata, layout_bytes, layout_from_flatbuffer,
@@ -15,9 +18,9 @@ use vx_layout::{
 };
 use vx_model::{DType, PType};
 
-fn push_bytes(alloc: Global, answer: &mut Answer, bytes: &[u8]) {
+fn push_bytes(answer: &mut Answer, bytes: &[u8]) {
     answer.push_str("x");
-    answer.push_given(hex::encode(alloc, bytes));
+    answer.push_hex(bytes);
 }
 
 /// Of the words `viewed`, `sent` and `again`: of what is read from the layout's bytes.
@@ -29,23 +32,12 @@ pub(crate) fn tell_viewed(
     layout: &Layout,
 ) {
     match reread(alloc, layout) {
-        Ok(read) => tell_read(rt, alloc, answer, word, layout, read),
+        Ok(read) => match word {
+            "again" => push_again(alloc, answer, layout, read),
+            "sent" => push_chunks(answer, through_a_thread(rt, read)),
+            _ => push_chunks(answer, read),
+        },
         Err(error) => answer.push(error),
-    }
-}
-
-fn tell_read(
-    rt: &impl Threads,
-    alloc: Global,
-    answer: &mut Answer,
-    word: &str,
-    layout: &Layout,
-    read: Layout,
-) {
-    match word {
-        "again" => push_again(alloc, answer, layout, read),
-        "sent" => push_chunks(answer, through_a_thread(rt, read)),
-        _ => push_chunks(answer, read),
     }
 }
 
@@ -91,15 +83,10 @@ fn spelled(alloc: Global, layout: &Layout) -> Result<Vec<u8>> {
 /// What the bytes of a layout of the type are, where each kind is registered.
 fn parsed(alloc: Global, dtype: &DType, bytes: &[u8]) -> Result<Layout> {
     let ids = ids(alloc)?;
-    let parsed = parsed_by(alloc, dtype, bytes, &ids);
-    drop(ids);
-    parsed
-}
-
-fn parsed_by(alloc: Global, dtype: &DType, bytes: &[u8], ids: &LayoutContext) -> Result<Layout> {
     let session = session(alloc)?;
-    let parsed = parsed_in(alloc, dtype, bytes, ids, &session);
+    let parsed = parsed_in(alloc, dtype, bytes, &ids, &session);
     drop(session);
+    drop(ids);
     parsed
 }
 
@@ -110,17 +97,26 @@ fn parsed_in(
     ids: &LayoutContext,
     session: &Session,
 ) -> Result<Layout> {
-    let encodings = encodings(alloc)?;
+    let encodings = all_encodings(alloc)?;
     let bytes = Bytes::copy_from_slice(alloc, bytes)?;
     let limits = Limits::default();
     Ok(layout_from_flatbuffer(alloc, bytes, dtype, ids, &encodings, session, limits)?)
 }
 
+/// The bytes of the node, and in a line of its own what is read from them.
 pub(crate) fn tell_node(alloc: Global, answer: &mut Answer, word: &str) {
     match node_bytes(alloc, word) {
         Ok(bytes) => {
-            push_bytes(alloc, answer, &bytes);
-            push_nodes(answer, nodes_of(alloc, bytes));
+            push_bytes(answer, &bytes);
+            match nodes_of(alloc, bytes) {
+                Ok(node) => {
+                    let segments = node.segments.as_slice();
+                    write!(answer, "\n{} {} {segments:?} ", node.index, node.rows);
+                    answer.push(node.children.len());
+                    drop(node);
+                }
+                Err(error) => answer.push(error),
+            }
         }
         Err(error) => answer.push(error),
     }
@@ -139,28 +135,11 @@ fn nodes_of(alloc: Global, bytes: Vec<u8>) -> Result<RawNode> {
     Ok(read_nodes(alloc, bytes, Limits::default())?)
 }
 
-/// The node in a line of its own.
-fn push_nodes(answer: &mut Answer, node: Result<RawNode>) {
-    match node {
-        Ok(node) => {
-            push_node(answer, &node);
-            drop(node);
-        }
-        Err(error) => answer.push(error),
-    }
-}
-
-fn push_node(answer: &mut Answer, node: &RawNode) {
-    let segments = node.segments.as_slice();
-    write!(answer, "\n{} {} {segments:?} ", node.index, node.rows);
-    answer.push(node.children.len());
-}
-
 pub(crate) fn tell_metadata(alloc: Global, answer: &mut Answer, args: &str) {
     let (kind, bytes) = cut(args);
     match serialized(alloc, kind, bytes) {
         Ok(bytes) => {
-            push_bytes(alloc, answer, &bytes);
+            push_bytes(answer, &bytes);
             drop(bytes);
         }
         Err(error) => answer.push(error),
@@ -194,21 +173,18 @@ fn zoned(alloc: Global, bytes: &[u8]) -> Result<Vec<u8>> {
     Ok(read.serialize(alloc)?)
 }
 
+/// `u32` is the type that is left.
 pub(crate) fn tell_codes(alloc: Global, answer: &mut Answer, word: &str) {
-    match DictLayoutMetadata::new(ptype_in(word)).serialize(alloc) {
-        Ok(bytes) => {
-            push_bytes(alloc, answer, &bytes);
-            drop(bytes);
-        }
-        Err(error) => answer.push(error),
-    }
-}
-
-/// `u32` is the one that is left.
-fn ptype_in(word: &str) -> PType {
-    match word {
+    let ptype = match word {
         "u8" => PType::U8,
         "u16" => PType::U16,
         _ => PType::U32,
+    };
+    match DictLayoutMetadata::new(ptype).serialize(alloc) {
+        Ok(bytes) => {
+            push_bytes(answer, &bytes);
+            drop(bytes);
+        }
+        Err(error) => answer.push(error),
     }
 }

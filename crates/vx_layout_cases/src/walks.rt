@@ -39,21 +39,16 @@ fn push_ids<'a, I: Iterator<Item = Result<LayoutChild<'a>, AllocError>>>(
 {
     let mut later = false;
     for node in nodes {
-        push_id(answer, node, later);
-        later = true;
-    }
-}
-
-/// The id, behind a space where others stand before it.
-fn push_id(answer: &mut Answer, node: Result<LayoutChild<'_>, AllocError>, later: bool) {
-    if later {
-        answer.push_str(" ");
-    }
-    match node {
-        Ok(node) => {
-            answer.push_str(node.layout().encoding_id());
-            drop(node);
+        if later {
+            answer.push_str(" ");
         }
-        Err(error) => answer.push(error),
+        match node {
+            Ok(node) => {
+                answer.push_str(node.layout().encoding_id());
+                drop(node);
+            }
+            Err(error) => answer.push(error),
+        }
+        later = true;
     }
 }

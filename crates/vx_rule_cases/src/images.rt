@@ -52,6 +52,7 @@ fn push_images<C: CompressorPlugin>(
     Ok(())
 }
 
+/// The image, a dictionary as its codes and its values.
 fn push_image(
     alloc: Global,
     answer: &mut Answer,
@@ -62,23 +63,18 @@ fn push_image(
     write!(answer, "{name} {batch}: ");
     match image {
         Ok(chunk) => {
-            push_held(alloc, answer, &chunk);
+            match chunk.node() {
+                Node::Dict { codes, values } => {
+                    answer.push_str("codes ");
+                    push_chunk(alloc, answer, codes);
+                    answer.push_str(" of ");
+                    push_chunk(alloc, answer, values);
+                }
+                _ => push_chunk(alloc, answer, &chunk),
+            }
             drop(chunk);
         }
         Err(error) => answer.push(error),
     }
     answer.push_str("\n");
-}
-
-/// A dictionary as its codes and its values.
-fn push_held(alloc: Global, answer: &mut Answer, image: &Chunk) {
-    match image.node() {
-        Node::Dict { codes, values } => {
-            answer.push_str("codes ");
-            push_chunk(alloc, answer, codes);
-            answer.push_str(" of ");
-            push_chunk(alloc, answer, values);
-        }
-        _ => push_chunk(alloc, answer, image),
-    }
 }

@@ -44,7 +44,8 @@ fn push_lines<R: Rule>(
     for i in 0..stream.batches.len() {
         let last = i == stream.batches.len() - 1;
         let given = given(alloc, rule, stream.dtype, &stream.batches[i], last)?;
-        push_given(alloc, answer, stream.name, i, given);
+        push_outputs(alloc, answer, stream.name, i, &given);
+        drop(given);
     }
     Ok(())
 }
@@ -74,11 +75,6 @@ fn given<R: Rule>(
 {
     let chunk = of_type(dtype, read_batch(alloc, dtype, batch)?)?;
     Ok(rule.step(alloc, dtype, chunk, last)?)
-}
-
-fn push_given(alloc: Global, answer: &mut Answer, name: &str, batch: usize, given: Outputs) {
-    push_outputs(alloc, answer, name, batch, &given);
-    drop(given);
 }
 
 fn push_outputs(alloc: Global, answer: &mut Answer, name: &str, batch: usize, given: &Outputs) {

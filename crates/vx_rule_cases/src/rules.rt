@@ -18,23 +18,14 @@ use vx_nodes::{
 
 /// What the rule gives; one line where there is no rule.
 pub(crate) fn tell(alloc: Global, answer: &mut Answer, word: &str, given: &str, stream: Stream) {
-    if let Err(error) = tell_rule(alloc, answer, word, given, stream) {
-        answer.push_refusal(stream.name, error);
-    }
-}
-
-fn tell_rule(
-    alloc: Global,
-    answer: &mut Answer,
-    word: &str,
-    given: &str,
-    stream: Stream,
-) -> anyhow::Result<()> {
-    match word {
-        "fields" => Ok(tell_fields(alloc, answer, stream)?),
+    let told = match word {
+        "fields" => tell_fields(alloc, answer, stream),
         "lists" => tell_lists(alloc, answer, stream),
         "runs" | "encode" => tell_dictionaries(alloc, answer, word, given, stream),
         _ => tell_agreed(alloc, answer, word, given, stream),
+    };
+    if let Err(error) = told {
+        answer.push_refusal(stream.name, error);
     }
 }
 
@@ -127,7 +118,7 @@ fn tell_blocks_of(
     Ok(())
 }
 
-fn tell_fields(alloc: Global, answer: &mut Answer, stream: Stream) -> Result<(), AllocError> {
+fn tell_fields(alloc: Global, answer: &mut Answer, stream: Stream) -> anyhow::Result<()> {
     match ColumnSplit::new(alloc, stream.dtype.clone()?) {
         Ok(rule) => tell_lines(alloc, answer, rule, stream),
         Err(refused) => push_refusal(answer, stream.name, &NodeError::from(refused)),

@@ -40,13 +40,9 @@ fn cells_of(alloc: Global, dtype: &DType, batch: &Value) -> anyhow::Result<Vec<C
 
 fn push_places(answer: &mut Answer, table: &mut CellTable, cells: Vec<Cell>) {
     for cell in cells {
-        push_place(answer, place_of(table, cell));
+        answer.push_str(" ");
+        answer.push_given(place_of(table, cell));
     }
-}
-
-fn push_place(answer: &mut Answer, place: Result<u64, AllocError>) {
-    answer.push_str(" ");
-    answer.push_given(place);
 }
 
 /// The place of the cell, which is pushed where it is new.
@@ -56,14 +52,12 @@ fn place_of(table: &mut CellTable, cell: Cell) -> Result<u64, AllocError> {
             drop(cell);
             Ok(place)
         }
-        None => push_new(table, cell),
+        None => {
+            let place = table.len();
+            table.push(cell)?;
+            Ok(place)
+        }
     }
-}
-
-fn push_new(table: &mut CellTable, cell: Cell) -> Result<u64, AllocError> {
-    let place = table.len();
-    table.push(cell)?;
-    Ok(place)
 }
 
 /// The cells, where both calls give them.
@@ -72,12 +66,9 @@ fn push_table(alloc: Global, answer: &mut Answer, table: CellTable) {
     let mut kept = Answer::new(alloc);
     push_cells(&mut kept, table.as_slice());
     let mut own = Answer::new(alloc);
-    push_own(&mut own, table.into_cells());
+    let cells = table.into_cells();
+    push_cells(&mut own, &cells);
+    drop(cells);
     answer.push_agreed(kept, own);
     answer.push_str("]\n");
-}
-
-fn push_own(answer: &mut Answer, cells: Vec<Cell>) {
-    push_cells(answer, &cells);
-    drop(cells);
 }

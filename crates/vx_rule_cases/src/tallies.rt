@@ -16,19 +16,17 @@ pub(crate) fn tell(alloc: Global, answer: &mut Answer, name: &str, calls: &str) 
 fn tell_call(alloc: Global, answer: &mut Answer, name: &str, tally: &mut Tally, call: &str) {
     let (word, numbers) = call.split_once(':').unwrap_or((call, ""));
     match word {
-        "push" => push(alloc, answer, tally, number(numbers)),
+        "push" => {
+            if tally.push(alloc, number(numbers)).is_err() {
+                answer.push_str("out of memory\n");
+            }
+        }
         "set" => set(answer, tally, numbers),
         _ => {
             write!(answer, "{name} {call}: ");
             tell_asked(answer, tally, word, numbers);
             answer.push_str("\n");
         }
-    }
-}
-
-fn push(alloc: Global, answer: &mut Answer, tally: &mut Tally, count: u64) {
-    if tally.push(alloc, count).is_err() {
-        answer.push_str("out of memory\n");
     }
 }
 
@@ -48,27 +46,25 @@ fn place_of(text: &str) -> usize {
 
 fn tell_asked(answer: &mut Answer, tally: &Tally, word: &str, numbers: &str) {
     match word {
-        "get" => tell_count(answer, tally, place_of(numbers)),
-        "find" => tell_place(answer, tally, number(numbers)),
+        "get" => {
+            let place = place_of(numbers);
+            if place < tally.len() {
+                answer.push(tally.get(place));
+            } else {
+                write!(answer, "no count at {place}");
+            }
+        }
+        "find" => {
+            let k = number(numbers);
+            if k < tally.sum() {
+                let (place, behind) = tally.find(k);
+                write!(answer, "count {place}, {behind} behind its beginning");
+            } else {
+                write!(answer, "{k} falls in no count");
+            }
+        }
         "sum" => answer.push(tally.sum()),
         "len" => write!(answer, "{}, none {}", tally.len(), tally.is_empty()),
         _ => write!(answer, "no call {word}"),
-    }
-}
-
-fn tell_count(answer: &mut Answer, tally: &Tally, place: usize) {
-    if place < tally.len() {
-        answer.push(tally.get(place));
-    } else {
-        write!(answer, "no count at {place}");
-    }
-}
-
-fn tell_place(answer: &mut Answer, tally: &Tally, k: u64) {
-    if k < tally.sum() {
-        let (place, behind) = tally.find(k);
-        write!(answer, "count {place}, {behind} behind its beginning");
-    } else {
-        write!(answer, "{k} falls in no count");
     }
 }

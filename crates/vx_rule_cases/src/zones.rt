@@ -28,22 +28,13 @@ use vx_zone_table::ZoneTableBuilder;
 pub(crate) fn tell(alloc: Global, answer: &mut Answer, case: Case, stream: Stream) {
     match aggregates_in(alloc, case.object, case.dtype) {
         Ok(aggregates) => {
-            tell_by(alloc, answer, case, &aggregates, stream);
+            let told = tell_zones(alloc, answer, case, &aggregates, stream);
             drop(aggregates);
+            if let Err(error) = told {
+                answer.push_refusal(case.name, error);
+            }
         }
         Err(error) => answer.push_refusal(case.name, error),
-    }
-}
-
-fn tell_by(
-    alloc: Global,
-    answer: &mut Answer,
-    case: Case,
-    aggregates: &[AggregateFn],
-    stream: Stream,
-) {
-    if let Err(error) = tell_zones(alloc, answer, case, aggregates, stream) {
-        answer.push_refusal(case.name, error);
     }
 }
 
@@ -110,7 +101,15 @@ fn tell_all(
     drop(guard);
     match pushed {
         Ok(()) => {
-            tell_table(alloc, answer, stream.name, builder.finish(alloc));
+            match builder.finish(alloc) {
+                Ok(Some((table, aggregates))) => {
+                    push_columns(alloc, answer, stream.name, &table, &aggregates);
+                    drop(aggregates);
+                    drop(table);
+                }
+                Ok(None) => write!(answer, "{}: no table\n", stream.name),
+                Err(error) => answer.push_refusal(stream.name, error),
+            }
             Ok(())
         }
         Err(error) => {
@@ -196,23 +195,6 @@ fn push_record(
     push_values(answer, &values);
     answer.push_str("\n");
     builder.push(values)
-}
-
-fn tell_table(
-    alloc: Global,
-    answer: &mut Answer,
-    name: &str,
-    table: Result<Option<(Chunk, Vec<AggregateFn>)>, AllocError>,
-) {
-    match table {
-        Ok(Some((table, aggregates))) => {
-            push_columns(alloc, answer, name, &table, &aggregates);
-            drop(aggregates);
-            drop(table);
-        }
-        Ok(None) => write!(answer, "{name}: no table\n"),
-        Err(error) => answer.push_refusal(name, error),
-    }
 }
 
 /// A line of the table, and the aggregates of its columns.

@@ -5,21 +5,22 @@ use vx_case_lines::Answer;
 use vx_field_path::{FieldMask, FieldPath};
 use vx_model::Text;
 
+/// The mask below the first name is what the mask becomes, so it is told behind what the mask is.
 pub(crate) fn tell(alloc: Global, answer: &mut Answer, given: &str) {
     match mask(alloc, given) {
-        Ok(mask) => tell_mask(alloc, answer, mask),
+        Ok(mask) => {
+            let mut rest = Answer::new(alloc);
+            write!(rest, ", all fields {}, first ", mask.matches_all());
+            match mask.starting_field() {
+                Some(name) => rest.push_str(name.as_str()),
+                None => rest.push_str("-"),
+            }
+            answer.push_str("below ");
+            push_mask(answer, mask.step_into().as_ref());
+            answer.push_all(rest);
+        }
         Err(error) => answer.push(error),
     }
-}
-
-/// The mask below the first name is what the mask becomes, so it is told behind what the mask is.
-fn tell_mask(alloc: Global, answer: &mut Answer, mask: FieldMask) {
-    let mut rest = Answer::new(alloc);
-    write!(rest, ", all fields {}, first ", mask.matches_all());
-    push_first(&mut rest, &mask);
-    answer.push_str("below ");
-    push_mask(answer, mask.step_into().as_ref());
-    answer.push_all(rest);
 }
 
 fn path(alloc: Global, words: &str) -> Result<FieldPath, AllocError> {
@@ -56,12 +57,5 @@ pub(crate) fn push_path(answer: &mut Answer, word: &str, path: &FieldPath) {
     for name in path.parts() {
         answer.push_str(" ");
         answer.push_str(name.as_str());
-    }
-}
-
-fn push_first(answer: &mut Answer, mask: &FieldMask) {
-    match mask.starting_field() {
-        Some(name) => answer.push_str(name.as_str()),
-        None => answer.push_str("-"),
     }
 }

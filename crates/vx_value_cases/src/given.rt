@@ -1,22 +1,14 @@
 //! What a case gives.
 
-use serde_json::Value;
 use std::alloc::Global;
-use vx_chunk_json::read_type;
-use vx_model::DType;
-use vx_strategy::Strategy;
-use vx_strategy_json::read_strategy;
+use vx_case_lines::bytes_of;
 
-pub(crate) fn dtype(alloc: Global, json: &str) -> anyhow::Result<DType> {
-    let value = Value::from_str(alloc, json)?;
-    let dtype = read_type(alloc, &value);
-    drop(value);
-    Ok(dtype?)
+/// None where the text is no bytes, as `-`.
+pub(crate) fn bytes(alloc: Global, text: &str) -> Vec<u8> {
+    bytes_of(alloc, text).unwrap_or(Vec::new(alloc))
 }
 
-pub(crate) fn strategy(alloc: Global, json: &str) -> anyhow::Result<Strategy> {
-    let value = Value::from_str(alloc, json)?;
-    let strategy = read_strategy(alloc, &value);
-    drop(value);
-    Ok(strategy?)
+/// 0 where the text is no such number.
+pub(crate) fn count(text: &str) -> u32 {
+    text.parse::<u32>().unwrap_or(0)
 }

@@ -71,27 +71,28 @@ fn masks(alloc: Global, text: &str) -> Result<Vec<FieldMask>, AllocError> {
     Ok(masks)
 }
 
+/// The number of each field with the mask as seen from it, and `-` for none.
 fn tell_matched<L: LayoutFields>(alloc: Global, answer: &mut Answer, layout: &L, given: &str) {
     match masks(alloc, given) {
         Ok(masks) => {
-            push_matches(answer, layout.matching_fields(alloc, &masks));
+            match layout.matching_fields(alloc, &masks) {
+                Ok(matches) => {
+                    push_listed(answer, &matches);
+                    drop(matches);
+                }
+                Err(error) => {
+                    match &error {
+                        LayoutError::FieldNotFound(name) => {
+                            write!(answer, "FieldNotFound({})", name.as_str());
+                        }
+                        error => answer.push(error),
+                    }
+                    drop(error);
+                }
+            }
             drop(masks);
         }
         Err(error) => answer.push(error),
-    }
-}
-
-/// The number of each field with the mask as seen from it, and `-` for none.
-fn push_matches(answer: &mut Answer, matches: Result<Vec<(FieldMask, u64)>, LayoutError>) {
-    match matches {
-        Ok(matches) => {
-            push_listed(answer, &matches);
-            drop(matches);
-        }
-        Err(error) => {
-            push_refusal(answer, &error);
-            drop(error);
-        }
     }
 }
 
@@ -105,12 +106,5 @@ fn push_listed(answer: &mut Answer, matches: &[(FieldMask, u64)]) {
         answer.push(*number);
         answer.push_str(" ");
         push_mask(answer, Some(mask));
-    }
-}
-
-fn push_refusal(answer: &mut Answer, error: &LayoutError) {
-    match error {
-        LayoutError::FieldNotFound(name) => write!(answer, "FieldNotFound({})", name.as_str()),
-        error => answer.push(error),
     }
 }

@@ -8,10 +8,26 @@ use vx_field_path::FieldPath;
 use vx_model::Text;
 use vx_strategy::{BuildError, TableStrategy};
 
+/// Whether there is a table, or which paths overlap.
 pub(crate) fn tell(alloc: Global, answer: &mut Answer, given: &str) {
     let (standing, new) = halves(given);
     match paths(alloc, standing, new) {
-        Ok((standing, new)) => tell_table(answer, with_writers(alloc, standing, new)),
+        Ok((standing, new)) => match with_writers(alloc, standing, new) {
+            Ok(table) => {
+                drop(table);
+                answer.push_str("Ok");
+            }
+            Err(error) => {
+                match &error {
+                    BuildError::OverlappingPath(standing, new) => {
+                        push_path(answer, "standing", standing);
+                        push_path(answer, ", new", new);
+                    }
+                    error => answer.push_debug(error),
+                }
+                drop(error);
+            }
+        },
         Err(error) => answer.push(error),
     }
 }
@@ -43,28 +59,4 @@ fn with_writers(
     table(alloc)?
         .with_field_writer(alloc, standing, flat())?
         .with_field_writer(alloc, new, flat())
-}
-
-/// Whether there is a table, or which paths overlap.
-fn tell_table(answer: &mut Answer, table: Result<TableStrategy, BuildError>) {
-    match table {
-        Ok(table) => {
-            drop(table);
-            answer.push_str("Ok");
-        }
-        Err(error) => {
-            push_refusal(answer, &error);
-            drop(error);
-        }
-    }
-}
-
-fn push_refusal(answer: &mut Answer, error: &BuildError) {
-    match error {
-        BuildError::OverlappingPath(standing, new) => {
-            push_path(answer, "standing", standing);
-            push_path(answer, ", new", new);
-        }
-        error => answer.push_debug(error),
-    }
 }

@@ -35,11 +35,6 @@ fn tell_compared(
 ) -> Result<(), AllocError> {
     let one = path(alloc, one)?;
     let other = path(alloc, other)?;
-    push_compared(answer, &one, &other);
-    Ok(())
-}
-
-fn push_compared(answer: &mut Answer, one: &Path, other: &Path) {
     let less = one < other;
     let equal = one == other;
     let most = path_le(one.as_slice(), other.as_slice());
@@ -48,6 +43,7 @@ fn push_compared(answer: &mut Answer, one: &Path, other: &Path) {
         answer,
         "less {less}, equal {equal}, at most {most}, at least {least}"
     );
+    Ok(())
 }
 
 fn tell_child(

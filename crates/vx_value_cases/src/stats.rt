@@ -5,29 +5,23 @@ use vx_case_objects::stat_of;
 
 /// Of the words `stat` and `stats`.
 pub(crate) fn tell(answer: &mut Answer, word: &str, given: &str) {
-    let told = if word == "stat" {
-        tell_one(answer, given)
-    } else {
-        tell_two(answer, given)
-    };
-    if let Err(error) = told {
+    if let Err(error) = tell_asked(answer, word, given) {
         answer.push(error);
     }
 }
 
-fn tell_one(answer: &mut Answer, given: &str) -> anyhow::Result<()> {
-    let stat = stat_of(given)?;
+fn tell_asked(answer: &mut Answer, word: &str, given: &str) -> anyhow::Result<()> {
+    let (one, other) = cut(given);
+    let stat = stat_of(one)?;
+    if word == "stats" {
+        let less = stat < stat_of(other)?;
+        write!(answer, "less {less}");
+        return Ok(());
+    }
     write!(answer, "{}, number {}", stat.name(), stat.number());
     match stat.aggregate_fn() {
         Some(aggregate) => write!(answer, ", aggregate {aggregate}"),
         None => answer.push_str(", no aggregate"),
     }
-    Ok(())
-}
-
-fn tell_two(answer: &mut Answer, given: &str) -> anyhow::Result<()> {
-    let (one, other) = cut(given);
-    let less = stat_of(one)? < stat_of(other)?;
-    write!(answer, "less {less}");
     Ok(())
 }

@@ -1,32 +1,31 @@
 //! Strategies, and what stands for a table at a type.
 
-use crate::given::{dtype, strategy};
 use anyhow::bail;
+use serde_json::Value;
 use std::alloc::{AllocError, Global};
 use vx_case_lines::{Answer, halves};
+use vx_chunk_json::read_type;
 use vx_model::{DType, Text};
 use vx_strategy::{
     BuildError, DictLayoutOptions, FlatLayoutStrategy, RepartitionWriterOptions, Strategy,
     StructStrategy, ZonedLayoutOptions, dict_layout_supported,
 };
+use vx_strategy_json::read_strategy;
 use vx_table_dispatch::dispatch;
 
 pub(crate) fn flat() -> Strategy {
     FlatLayoutStrategy::default().into_strategy()
 }
 
-/// Blocks of at most 8192 rows that aim at so many bytes.
-fn blocks_aiming_at(target: Option<u64>) -> RepartitionWriterOptions {
-    RepartitionWriterOptions {
+/// Of blocks of at most 8192 rows that aim at so many bytes.
+pub(crate) fn tell_block(answer: &mut Answer, dtype: &DType, target: &str) {
+    let blocks = RepartitionWriterOptions {
         block_size_minimum: 0,
         block_len_multiple: 8192,
-        block_size_target: target,
+        block_size_target: target.parse().ok(),
         canonicalize: false,
-    }
-}
-
-pub(crate) fn tell_block(answer: &mut Answer, dtype: &DType, target: &str) {
-    let rows = blocks_aiming_at(target.parse().ok()).effective_block_len(dtype);
+    };
+    let rows = blocks.effective_block_len(dtype);
     let dictionary = dict_layout_supported(dtype);
     write!(answer, "{rows} rows, dictionary {dictionary}");
 }
@@ -38,13 +37,10 @@ pub(crate) fn tell_defaults(answer: &mut Answer) {
 }
 
 /// A strategy of structs that has a writer of the fields of this name.
-fn with_writer(alloc: Global, name: Text) -> Result<StructStrategy, BuildError> {
-    StructStrategy::new(alloc, flat(), flat())?.with_field_writer(alloc, name, flat())
-}
-
 fn by_name(alloc: Global, name: &str) -> Result<Strategy, BuildError> {
     let name = Text::from_str(alloc, name)?;
-    Ok(with_writer(alloc, name)?.into_strategy())
+    let made = StructStrategy::new(alloc, flat(), flat())?;
+    Ok(made.with_field_writer(alloc, name, flat())?.into_strategy())
 }
 
 fn kind(strategy: &Strategy) -> &'static str {
@@ -75,75 +71,49 @@ fn within<'a>(strategy: &'a Strategy, field: &Text) -> Option<&'a Strategy> {
     }
 }
 
-/// Of the words `copy`, `field` and `dispatch`.
-pub(crate) fn tell(alloc: Global, answer: &mut Answer, word: &str, given: &str) {
-    let (text, rest) = given.split_once(" / ").unwrap_or((given, given));
-    match asked(alloc, word, text) {
+/// Of the words `copy` and `dispatch`.
+pub(crate) fn tell(alloc: Global, answer: &mut Answer, word: &str, of: &Value, given: &str) {
+    match read_strategy(alloc, of) {
         Ok(strategy) => {
-            tell_of(alloc, answer, word, &strategy, rest);
+            if word == "copy" {
+                push_copied(alloc, answer, &strategy);
+            } else {
+                push_dispatched(alloc, answer, &strategy, given);
+            }
             drop(strategy);
         }
         Err(error) => answer.push(error),
     }
 }
 
-/// The strategy that the word asks about.
-fn asked(alloc: Global, word: &str, text: &str) -> anyhow::Result<Strategy> {
-    match word {
-        "field" => Ok(by_name(alloc, text)?),
-        _ => strategy(alloc, text),
-    }
-}
-
-fn tell_of(alloc: Global, answer: &mut Answer, word: &str, of: &Strategy, given: &str) {
-    match made(alloc, word, of, given) {
-        Ok(made) => {
-            push_made(alloc, answer, word, of, &made, given);
-            drop(made);
+/// Of a copy.
+pub(crate) fn tell_field(alloc: Global, answer: &mut Answer, name: &str) {
+    match by_name(alloc, name) {
+        Ok(strategy) => {
+            match strategy.clone() {
+                Ok(copy) => {
+                    push_kinds(alloc, answer, &copy, name);
+                    drop(copy);
+                }
+                Err(error) => answer.push(error),
+            }
+            drop(strategy);
         }
         Err(error) => answer.push(error),
     }
 }
 
-/// What the strategy stands for, or a copy of it.
-fn made(alloc: Global, word: &str, of: &Strategy, given: &str) -> anyhow::Result<Strategy> {
-    match word {
-        "dispatch" => at_type(alloc, of, given),
-        _ => Ok(of.clone()?),
+/// The kind of the strategy, and whether a copy has its text.
+fn push_copied(alloc: Global, answer: &mut Answer, strategy: &Strategy) {
+    match strategy.clone() {
+        Ok(copy) => {
+            answer.push_str(kind(strategy));
+            answer.push_str(", ");
+            answer.push_given(have_same_text(alloc, strategy, &copy));
+            drop(copy);
+        }
+        Err(error) => answer.push(error),
     }
-}
-
-/// What the table stands for at the type.
-fn at_type(alloc: Global, table: &Strategy, given: &str) -> anyhow::Result<Strategy> {
-    let Strategy::Table(table) = table else {
-        bail!("no table");
-    };
-    let dtype = dtype(alloc, halves(given).0)?;
-    let strategy = dispatch(table, &dtype);
-    drop(dtype);
-    Ok(strategy?)
-}
-
-fn push_made(
-    alloc: Global,
-    answer: &mut Answer,
-    word: &str,
-    of: &Strategy,
-    made: &Strategy,
-    given: &str,
-) {
-    match word {
-        "copy" => push_compared(alloc, answer, of, made),
-        "dispatch" => push_kinds(alloc, answer, made, halves(given).1),
-        _ => push_kinds(alloc, answer, made, given),
-    }
-}
-
-/// The kind of the strategy, and whether the copy has its text.
-fn push_compared(alloc: Global, answer: &mut Answer, strategy: &Strategy, copy: &Strategy) {
-    answer.push_str(kind(strategy));
-    answer.push_str(", ");
-    answer.push_given(have_same_text(alloc, strategy, copy));
 }
 
 fn have_same_text(alloc: Global, one: &Strategy, other: &Strategy) -> Result<bool, AllocError> {
@@ -151,21 +121,46 @@ fn have_same_text(alloc: Global, one: &Strategy, other: &Strategy) -> Result<boo
     Ok(format!(in alloc; "{other:?}")?.as_str() == text.as_str())
 }
 
-/// The kind of the strategy, and of what stands within.
-fn push_kinds(alloc: Global, answer: &mut Answer, strategy: &Strategy, field: &str) {
-    answer.push_str(kind(strategy));
-    match Text::from_str(alloc, field) {
-        Ok(field) => {
-            push_within(answer, within(strategy, &field));
-            drop(field);
+/// What the table stands for at a type.
+fn push_dispatched(alloc: Global, answer: &mut Answer, table: &Strategy, given: &str) {
+    let (of, field) = halves(given);
+    match at_type(alloc, table, of) {
+        Ok(strategy) => {
+            push_kinds(alloc, answer, &strategy, field);
+            drop(strategy);
         }
         Err(error) => answer.push(error),
     }
 }
 
-fn push_within(answer: &mut Answer, within: Option<&Strategy>) {
-    if let Some(inner) = within {
-        answer.push_str(", ");
-        answer.push_str(kind(inner));
+fn at_type(alloc: Global, table: &Strategy, of: &str) -> anyhow::Result<Strategy> {
+    let Strategy::Table(table) = table else {
+        bail!("no table");
+    };
+    let dtype = dtype(alloc, of)?;
+    let strategy = dispatch(table, &dtype);
+    drop(dtype);
+    Ok(strategy?)
+}
+
+fn dtype(alloc: Global, json: &str) -> anyhow::Result<DType> {
+    let value = Value::from_str(alloc, json)?;
+    let dtype = read_type(alloc, &value);
+    drop(value);
+    Ok(dtype?)
+}
+
+/// The kind of the strategy, and of what stands within.
+fn push_kinds(alloc: Global, answer: &mut Answer, strategy: &Strategy, field: &str) {
+    answer.push_str(kind(strategy));
+    match Text::from_str(alloc, field) {
+        Ok(field) => {
+            if let Some(inner) = within(strategy, &field) {
+                answer.push_str(", ");
+                answer.push_str(kind(inner));
+            }
+            drop(field);
+        }
+        Err(error) => answer.push(error),
     }
 }

@@ -1,4 +1,0 @@
-use Rattle.vx_sequence_calls.proofs.finds.paths_are_found.Given as goal
-
-abbrev pub ghosts-places : goal.ghosts-places
-ghosts-places g a = record { name = a.blank.name; parts = a.blank.parts }
