@@ -1,4 +1,4 @@
-//! Writes that are stepped by hand: each step is a call of its own, and counts the ready tasks anew.
+//! Writes that are stepped by hand: each step is a call of its own.
 
 ghost use Rattle.std.specs.Prelude.{◌≡◌, List, ℕ};
 ghost use Rattle.vx_machine_ids.specs.Balance.{Owned};
@@ -30,7 +30,7 @@ pub(crate) fn tell(alloc: Global, answer: &mut Answer, given: &str) {
 }
 
 fn tell_job(alloc: Global, answer: &mut Answer, job: Job) {
-    let mut source = ListSource::new(job.schema, job.batches, job.faults.source);
+    let mut source = ListSource::new(job.schema, job.batches, Vec::new(alloc));
     match all_encodings(alloc) {
         Ok(encodings) => {
             let mut ctx = LayoutWriterContext::new(encodings);
