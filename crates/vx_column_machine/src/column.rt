@@ -1,0 +1,198 @@
+//! A column's own machine, step by step.
+
+ghost use Rattle.std.specs.Prelude.{◌≡◌, ◌+◌, ◌<◌, ◌^◌, false, true, Some, IsTrue, IfOk, IfErr, OnOk};
+ghost use Rattle.vx_model.specs.TyView.{ty};
+ghost use Rattle.vx_seats.specs.Turns.{NeverFails};
+ghost use Rattle.vx_strategy.specs.StrategyView.{strategy_data};
+ghost use Rattle.vx_sink.specs.ContextView.{is_marked, allowed_in, counted};
+ghost use Rattle.vx_layout_tree.specs.LayoutView.{layout_data};
+ghost use Rattle.vx_desk.specs.DeskView.{universe_of};
+ghost use Rattle.vx_machine_view.specs.Machine.{is_finished as has_finished};
+ghost use Rattle.vx_machine_node.specs.Ledger.{told_by};
+ghost use Rattle.vx_machine.specs.View.{machine_of};
+ghost use Rattle.vx_machine.specs.Whole.{is_finished};
+ghost use Rattle.vx_column_machine.specs.Course.{Course, plan_of};
+ghost use Rattle.vx_column_machine.specs.Underway.{InBalance, Underway, IsFront, IsSet, IsGiven, Wrote};
+ghost use Rattle.vx_column_machine.specs.Causes.{IsDone, HasCause, StepPressed};
+
+use crate::paths::at_column;
+use std::alloc::{AllocError, Global};
+use vx_column_ids::column_pointers;
+use vx_desk::Desk;
+use vx_layout_tree::Layout;
+use vx_machine::Machine;
+use vx_path::owned::Path;
+use vx_sequence::SequenceId;
+use vx_sink::{BatchSource, CompressorPlugin, LayoutWriterContext};
+use vx_strategy::Strategy;
+use vx_write_answer::WriteError;
+
+/// A column of a struct that is written by itself. Its segments are handed out, with the paths at which the struct's node would
+/// write them; their numbers in its layout are places in the list of these paths.
+///
+/// It must be spent, by `finish` or `refuse`.
+pub struct ColumnMachine<B> {
+    alloc: Global,
+    column: u64,
+    machine: Machine,
+    desk: Desk,
+    source: B,
+    ctx: LayoutWriterContext,
+    paths: Vec<Path>,
+}
+
+impl<B: BatchSource + Drop> ColumnMachine<B> {
+    /// The machine before its first step. The context is the column's own, and counts nothing yet.
+    pub fn begin(
+        alloc: Global,
+        strategy: &Strategy,
+        ctx: LayoutWriterContext,
+        source: B,
+        column: u64,
+    ) -> Result<Self, WriteError>
+        requires fits { column + 2 < 2 ^ 64 }
+        requires none { counted ctx ≡ 0 }
+        requires steady { NeverFails (B.may_fail source) }
+        ensures balance { IfOk result (InBalance B.may_fail) }
+        ensures underway { IfOk result (λ c. (x : Course) → IsGiven (allowed_in ctx) (strategy_data strategy.now) (B.kind source) (is_marked ctx) column (B.to_come source) x → Underway B.to_come B.kind x c) }
+        ensures context { IfOk result (λ c. told_by c.ctx ≡ told_by ctx) }
+        ensures refused { IfErr result (λ e. (x : Course) → IsGiven (allowed_in ctx) (strategy_data strategy.now) (B.kind source) (is_marked ctx) column (B.to_come source) x → HasCause x e) }
+    {
+        vx_plan::start_faults_stand();
+        vx_machine_turns::start_faults_agree();
+        vx_machine_runs::course_ends();
+        let Ok((mut universe, root)) = SequenceId::root(alloc) else {
+            return Err(WriteError::OutOfMemory);
+        };
+        let Ok((stream, eof)) = column_pointers(&mut universe, root, column) else {
+            return Err(WriteError::OutOfMemory);
+        };
+        let mut desk = Desk::new(alloc, universe);
+        let machine = Machine::start(
+            alloc,
+            strategy,
+            source.dtype(),
+            &ctx,
+            &mut desk,
+            stream,
+            eof,
+        )?;
+        Ok(ColumnMachine {
+            alloc,
+            column,
+            machine,
+            desk,
+            source,
+            ctx,
+            paths: Vec::new(alloc),
+        })
+    }
+
+    /// Whether all is written.
+    pub fn finished(&self) -> bool
+        ensures told { result ≡ is_finished self.now.machine }
+        ensures view { result ≡ has_finished (machine_of self.now.machine) }
+    {
+        self.machine.finished()
+    }
+
+    /// Where the struct's node would write next, at the earliest; nothing where nothing more is written.
+    pub fn front(&self) -> Result<Option<Path>, AllocError>
+        ensures { IfOk result (IsFront (universe_of self.now.desk) self.now.column) }
+    {
+        match self.desk.least() {
+            Some(least) => Ok(Some(at_column(self.alloc, self.column, least)?)),
+            None => Ok(None),
+        }
+    }
+
+    /// How many bytes are held back.
+    pub fn held(&self) -> u64
+        ensures { result ≡ counted self.now.ctx }
+    {
+        self.ctx.buffered_bytes()
+    }
+
+    /// The paths of the segments so far, in order.
+    pub fn paths(&self) -> &[Path]
+        ensures { result.now ≡ self.now.paths.items }
+    {
+        self.paths.as_slice()
+    }
+
+    /// The first ready task's next act; and the segment, if it writes one. After an error `refuse` alone is left to call.
+    pub fn step<C: CompressorPlugin>(
+        &mut self,
+        compressor: &mut C,
+    ) -> Result<Option<Vec<u8>>, WriteError>
+        requires balance { InBalance B.may_fail self.old }
+        requires going { has_finished (machine_of self.old.machine) ≡ false }
+        requires underway { (x : Course) × IsSet (C.image (C.kind compressor.old)) x self.old × Underway B.to_come B.kind x self.old }
+        ensures balance { InBalance B.may_fail self.new }
+        ensures context { told_by self.new.ctx ≡ told_by self.old.ctx }
+        ensures kind { C.kind compressor.new ≡ C.kind compressor.old }
+        ensures pressed { StepPressed (C.faults compressor.old) (C.faults compressor.new) (C.may_fail compressor.old) (C.may_fail compressor.new) result }
+        ensures led { OnOk result ((x : Course) → IsSet (C.image (C.kind compressor.old)) x self.old → Underway B.to_come B.kind x self.old → Underway B.to_come B.kind x self.new) }
+        ensures wrote { IfOk result (λ w. (x : Course) → IsSet (C.image (C.kind compressor.old)) x self.old → Underway B.to_come B.kind x self.old
+            → Wrote x self.old.paths.items self.new.paths.items w) }
+        ensures cause { IfErr result (λ e. (x : Course) → IsSet (C.image (C.kind compressor.old)) x self.old → Underway B.to_come B.kind x self.old → HasCause x e) }
+    {
+        vx_least_writes::writes();
+        vx_machine_runs::courses();
+        vx_machine_runs::course_ends();
+        let here = self.front()?;
+        self.paths.reserve(1)?;
+        let _step = self.machine.step(
+            0,
+            &mut self.ctx,
+            &mut self.source,
+            &mut self.desk,
+            compressor,
+        )?;
+        let mut kept = self.desk.take();
+        let Some(segment) = kept.pop() else {
+            return Ok(None);
+        };
+        match here {
+            Some(path) => self.paths.push_reserved(path),
+            // Only what is held is written.
+            None => unreachable!(),
+        }
+        Ok(Some(segment))
+    }
+
+    /// The layout, and the paths of its segments.
+    pub fn finish(self) -> (Layout, Vec<Path>)
+        requires done { IsTrue (is_finished self.machine) × (has_finished (machine_of self.machine) ≡ true) }
+        ensures { (x : Course) → Underway B.to_come B.kind x self → IsDone (plan_of x) x.number (layout_data result.0) result.1.items }
+    {
+        vx_machine_runs::course_ends();
+        vx_machine_runs::course_counts();
+        let ColumnMachine {
+            alloc: _,
+            column: _,
+            machine,
+            desk: _desk,
+            source: _source,
+            ctx: _ctx,
+            paths,
+        } = self;
+        (machine.finish(), paths)
+    }
+
+    /// Gives all up that it holds.
+    pub fn refuse(self)
+        requires { InBalance B.may_fail self }
+    {
+        let ColumnMachine {
+            alloc: _,
+            column: _,
+            machine,
+            mut desk,
+            source: _source,
+            mut ctx,
+            paths: _paths,
+        } = self;
+        machine.refuse(&mut ctx, &mut desk);
+    }
+}
