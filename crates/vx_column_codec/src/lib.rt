@@ -1,0 +1,6 @@
+//! The bytes of columns.
+#![tactic(auto)]
+
+mod write;
+
+pub use write::push_column;
