@@ -12,7 +12,7 @@ use crate::flags::Flags;
 use crate::kind::StringKind;
 use crate::shared::Shared;
 use crate::strings_read::{are_strings, cell_at, push_cells, strings_in, total_len};
-use crate::strings_written::push_strings;
+use crate::strings_written::{push_strings, room};
 use std::alloc::{AllocError, Global};
 use std::marker::Model;
 use vx_chunk_cells::flags_between;
@@ -151,12 +151,13 @@ impl Strings {
         push_cells(self.kind, bytes, offsets, self.valid.as_slice(), out)
     }
 
-    /// Appends the bytes of the cells in a type of texts or of bytes, nullable or not.
+    /// Appends the bytes of the cells in a type of texts or of bytes, nullable or not, into room that is made at once.
     #[tactic(auto, using(crate::proofs::StringSteps::model_rules))]
     pub fn push_bytes(&self, nullable: bool, out: &mut Vec<u8>) -> Result<(), AllocError>
         ensures { OnOk result (out.new.items ≡ out.old.items ++ joined_by (text_spelling nullable) self.now) }
     {
         let (bytes, offsets) = (self.bytes.as_slice(), self.offsets.as_slice());
+        out.reserve(room(nullable, offsets))?;
         push_strings(
             nullable,
             self.kind,

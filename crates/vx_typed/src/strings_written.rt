@@ -1,6 +1,6 @@
 //! Strings as a segment has them.
 
-ghost use Rattle.std.specs.Prelude.{◌≡◌, ◌<◌, ◌++◌, [], if◌then◌else◌, true, length, drop, slice_index_or, OnOk};
+ghost use Rattle.std.specs.Prelude.{◌≡◌, ◌<◌, ◌≤◌, ◌++◌, [], if◌then◌else◌, true, length, drop, slice_index_or, OnOk};
 ghost use Rattle.vx_model.specs.Words.{joined_by, head_or};
 ghost use Rattle.vx_model.specs.CellData.{text_spelling, null_cell, flag_bytes, u64_bytes};
 ghost use Rattle.vx_typed.specs.Typed.{typed_cells, strings_between};
@@ -69,6 +69,16 @@ fn push_row(
         return push_null(nullable, out);
     }
     push_string(nullable, kind, string_at(kind, bytes, offsets, row), out)
+}
+
+/// What the bytes of strings between these offsets take; more where some are null.
+pub(crate) fn room(nullable: bool, offsets: &[u64]) -> usize
+    requires { 1 ≤ length offsets.now }
+{
+    let rows = offsets.len() - 1;
+    let strings = offsets[rows].saturating_sub(offsets[0]) as usize;
+    rows.saturating_mul(8 + usize::from(nullable))
+        .saturating_add(strings)
 }
 
 /// The bytes of strings with their flags, behind what was there.
