@@ -3,6 +3,7 @@ use Rattle.std.specs.Prelude.{ℕ, nat_lt, Bool, true, false, List, map, pos, Op
 use Rattle.vx_model.specs.CellData.{CellData, int_cell}
 use Rattle.vx_model.specs.declared.ptype.PType.{PType}
 use Rattle.vx_model.specs.declared.ptype.PType.TheVariants as types
+use Rattle.vx_model.specs.Numbers.{ptype_bytes}
 use Rattle.vx_model.specs.Ty.{Ty, boolean, primitive, utf8, binary, extension}
 use Rattle.vx_model.specs.TreeView.{tree}
 use Rattle.vx_column.specs.declared.leaves.AnyLeaves.{AnyLeaves}
@@ -38,10 +39,26 @@ abbrev pub leaf_type : Option PType → Bool → Ty
 leaf_type None n = boolean n
 leaf_type (Some p) n = primitive p n
 
+-- bytes of a value
+abbrev pub leaf_width : Option PType → ℕ
+leaf_width None = 1
+leaf_width (Some p) = ptype_bytes p
+
 abbrev pub column_cells : Column → List CellData
 column_cells (Leaves c) = leaf_cells c
 column_cells (Strings c) = c
 column_cells (Cells cs) = map tree cs.items
+
+-- how rows are kept: as values of a type, as texts or bytes, as cells
+pub data Form : Type 0 where
+  leaves : Option PType → Form
+  strings : Form
+  cells : Form
+
+abbrev pub column_form : Column → Form
+column_form (Leaves c) = leaves (leaf_ptype c)
+column_form (Strings c) = strings
+column_form (Cells cs) = cells
 
 -- the place that a code tells
 abbrev pub place_of : CellData → Option ℕ

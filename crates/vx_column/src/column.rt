@@ -6,7 +6,7 @@ ghost use Rattle.vx_model.specs.CellData.{null_cell};
 ghost use Rattle.vx_model.specs.TreeView.{tree};
 ghost use Rattle.vx_layout_spec.specs.Real.{is_real_cell};
 ghost use Rattle.vx_chunk_cells.specs.Window.{window};
-ghost use Rattle.vx_column.specs.ColumnView.{column_cells};
+ghost use Rattle.vx_column.specs.ColumnView.{column_cells, column_form};
 
 use crate::leaves::AnyLeaves;
 use std::alloc::{AllocError, Global};
@@ -53,7 +53,8 @@ impl Column {
     pub fn slice(&self, alloc: Global, from: u64, to: u64) -> Result<Column, AllocError>
         requires order { from ≤ to }
         requires within { to ≤ length (column_cells self.now) }
-        ensures { IfOk result (λ c. column_cells c ≡ window from to (column_cells self.now)) }
+        ensures cells { IfOk result (λ c. column_cells c ≡ window from to (column_cells self.now)) }
+        ensures form { IfOk result (λ c. column_form c ≡ column_form self.now) }
     {
         let (from, to) = (from as usize, to as usize);
         match self {
@@ -77,7 +78,7 @@ impl Column {
 }
 
 impl Clone for Column {
-    ghost is_clone = { λ c copy. column_cells copy ≡ column_cells c };
+    ghost is_clone = { λ c copy. (column_cells copy ≡ column_cells c) × (column_form copy ≡ column_form c) };
 
     /// The same rows: typed values in the same memory, cells as copies.
     fn clone(&self) -> Result<Column, AllocError> {

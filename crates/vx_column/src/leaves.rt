@@ -6,7 +6,7 @@ ghost use Rattle.vx_model.specs.CellData.{null_cell, spelling};
 ghost use Rattle.vx_model.specs.TreeView.{tree};
 ghost use Rattle.vx_chunk_cells.specs.Window.{window};
 ghost use Rattle.vx_typed.specs.Typed.{is_leaf};
-ghost use Rattle.vx_column.specs.ColumnView.{leaf_cells, leaf_ptype, leaf_type};
+ghost use Rattle.vx_column.specs.ColumnView.{leaf_cells, leaf_ptype, leaf_type, leaf_width};
 
 use std::alloc::AllocError;
 use vx_model::{Cell, PType};
@@ -104,7 +104,8 @@ impl AnyLeaves {
     pub fn slice(&self, from: usize, to: usize) -> Result<AnyLeaves, AllocError>
         requires order { from ≤ to }
         requires within { to ≤ length (leaf_cells self.now) }
-        ensures { IfOk result (λ c. leaf_cells c ≡ window from to (leaf_cells self.now)) }
+        ensures cells { IfOk result (λ c. leaf_cells c ≡ window from to (leaf_cells self.now)) }
+        ensures ptype { IfOk result (λ c. leaf_ptype c ≡ leaf_ptype self.now) }
     {
         as_each!(self, leaves => leaves.slice(from, to)?)
     }
@@ -116,16 +117,28 @@ impl AnyLeaves {
         of_each!(self, leaves => leaves.push_cells(out))
     }
 
-    /// Appends the bytes of the cells in the type of such values, nullable or not.
+    /// Bytes of a value.
+    fn width(&self) -> u64
+        ensures { result ≡ leaf_width (leaf_ptype self.now) }
+    {
+        match self.ptype() {
+            Some(ptype) => ptype.byte_width(),
+            None => 1,
+        }
+    }
+
+    /// Appends the bytes of the cells in the type of such values, nullable or not, into room that is made at once.
     pub fn push_bytes(&self, nullable: bool, out: &mut Vec<u8>) -> Result<(), AllocError>
         ensures { OnOk result (out.new.items ≡ out.old.items ++ joined_by (spelling (leaf_type (leaf_ptype self.now) nullable)) (leaf_cells self.now)) }
     {
+        let each = self.width() as usize + usize::from(nullable);
+        out.reserve(self.len().saturating_mul(each))?;
         of_each!(self, leaves => leaves.push_bytes(nullable, out))
     }
 }
 
 impl Clone for AnyLeaves {
-    ghost is_clone = { λ c copy. leaf_cells copy ≡ leaf_cells c };
+    ghost is_clone = { λ c copy. (leaf_cells copy ≡ leaf_cells c) × (leaf_ptype copy ≡ leaf_ptype c) };
 
     /// The same values, in the same memory.
     fn clone(&self) -> Result<AnyLeaves, AllocError> {
