@@ -1,0 +1,2 @@
+pub mod BesideAnswers
+pub mod RunsBeside

@@ -1,0 +1,12 @@
+//! A write by columns, each in a thread of its own, over one sink.
+#![tactic(auto)]
+
+mod names;
+mod numbers;
+mod shares;
+mod staff;
+mod worker;
+mod write;
+
+pub use vx_gate::{Gate, NoGate};
+pub use write::write_columns;
