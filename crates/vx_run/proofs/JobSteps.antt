@@ -22,7 +22,7 @@ use Rattle.vx_write.specs.Readable.{IsReadable}
 use Rattle.vx_write.specs.Traced.{Traced}
 use Rattle.vx_write.specs.RefusedAct.{RefusedThere}
 use Rattle.vx_write.specs.Written.{Planned, Wrote, AskedInSteps, Halted}
-use Rattle.vx_summary.proofs.MemoryWrites.{told_all, is_calm, never_listed}
+use Rattle.vx_run.proofs.MemoryWrites.{told_all, is_calm, never_listed}
 use Rattle.vx_write_answer.specs.Causes.{is_source_fault, is_sink_fault, is_compress_fault}
 use Rattle.vx_write_answer.specs.declared.step.Step.{Step}
 use Rattle.vx_write_answer.specs.declared.error.WriteError.{WriteError}

@@ -1,3 +1,6 @@
+mod MemoryWrites
+mod WriteSteps
+mod SummarySteps
 mod RunSteps
 mod Promises
 mod ShapeSteps

@@ -1,7 +1,7 @@
 -- What a run promises, by what its words ask for.
 use Rattle.std.proofs.Common.{◌≡◌, ℕ, ◌+◌, true, false, List, [], ◌∷◌, Option, Some, None, refl, sym, subst, ◌∙◌}
 use Rattle.std.specs.Io.KnownBytes.{IsAtEnd}
-use Rattle.vx_summary.specs.Summary.{summary}
+use Rattle.vx_run.specs.Summary.{summary}
 use Rattle.vx_job.specs.JobText.{limit}
 use Rattle.vx_run.specs.declared.command.Command.{Command}
 use Rattle.vx_run.specs.declared.status.Status.{Status}

@@ -16,7 +16,7 @@ use Rattle.vx_run.specs.declared.status.Status.TheVariants.{Done, Usage, BadJob,
 use Rattle.vx_session.specs.Made.{Made}
 use Rattle.vx_run.specs.declared.command.Command.{Command}
 use Rattle.vx_run.specs.declared.command.Command.TheVariants.{Write, Tree}
-use Rattle.vx_summary.specs.Summary.{summary}
+use Rattle.vx_run.specs.Summary.{summary}
 use Rattle.vx_run.specs.Answers.{IsText, IsAnswer, JobAnswer, SetsNoFaults, IsValid}
 use Rattle.vx_run.specs.TreeAnswers.{made_status, job_layout, IsTreeAnswer, tree_status}
 use Rattle.vx_run.specs.Commands.{Answers}

@@ -1,3 +1,4 @@
+pub mod Summary
 pub mod Failures
 pub mod RefusalNames
 pub mod Tables

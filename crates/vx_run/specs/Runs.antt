@@ -2,7 +2,7 @@
 use Rattle.std.specs.Prelude.{◌≡◌, ℕ, ◌+◌, ◌⊎◌, Bool, true, false, List, Option, Some, None, Ok}
 use Rattle.std.specs.Io.KnownBytes.{IsAtEnd}
 use Rattle.vx_fault.specs.Counts.{Counts, IsCalm}
-use Rattle.vx_summary.specs.Summary.{summary}
+use Rattle.vx_run.specs.Summary.{summary}
 use Rattle.vx_job.specs.JobText.{JobData, job, limit}
 use Rattle.vx_job.specs.TreeText.{tree_job}
 use Rattle.vx_run.specs.declared.command.Command.{Command}

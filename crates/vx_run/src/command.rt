@@ -4,10 +4,10 @@ ghost use Rattle.std.specs.Prelude.{◌≡◌, ◌↔◌, ◌∷◌, [], map, st
 ghost use Rattle.vx_run.specs.Commands.{command_of, command_named, IsNumber, TellsRows, Answers};
 
 use crate::answer::{Answer, answer_to};
+use crate::summary::MOST_ROWS;
 use crate::tree::tree_answer;
 use std::alloc::{AllocError, Global};
 use vx_progress::Progress;
-use vx_summary::MOST_ROWS;
 
 /// Each reads an input and prints one answer.
 #[derive(Clone, Copy, Debug, PartialEq, Eq)]

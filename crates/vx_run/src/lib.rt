@@ -9,8 +9,11 @@ mod output;
 mod real;
 mod running;
 mod status;
+mod summary;
 mod tables;
+mod totals;
 mod tree;
+mod writing;
 
 pub use command::Command;
 pub use input::{Input, InputFailure};

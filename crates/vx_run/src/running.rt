@@ -4,7 +4,7 @@ ghost use Rattle.std.specs.Prelude.{◌≡◌, ℕ, ◌+◌, ◌≤◌, true, fa
 ghost use Rattle.std.specs.Io.KnownBytes.{Appends, IsAtEnd};
 ghost use Rattle.vx_fault.specs.Counts.{Counts};
 ghost use Rattle.vx_generator_laws.specs.TableWrite.{most_rows};
-ghost use Rattle.vx_summary.specs.Summary.{summary};
+ghost use Rattle.vx_run.specs.Summary.{summary};
 ghost use Rattle.vx_job.specs.JobText.{limit};
 ghost use Rattle.vx_run.specs.declared.status.Status.TheVariants as statuses;
 ghost use Rattle.vx_run.specs.Answers.{IsText};
@@ -17,10 +17,10 @@ use crate::command::{Command, answer_by, command_of, rows_asked};
 use crate::input::{Input, InputFailure};
 use crate::output::{Output, OutputFailure};
 use crate::status::Status;
+use crate::summary::table_summary;
 use std::alloc::Global;
 use vx_job::LIMIT;
 use vx_progress::{Nobody, Progress};
-use vx_summary::table_summary;
 
 /// Does what the words say with the input and the output, and gives the exit status.
 ///

@@ -4,7 +4,7 @@ use Rattle.vx_compressor_spec.specs.TableImage.{table_image}
 use Rattle.vx_write.specs.Context.{setting_of}
 use Rattle.vx_job.specs.JobText.{JobData}
 use Rattle.vx_job.specs.JobView.{job_view}
-use Rattle.vx_summary.proofs.MemoryWrites.{same_setting}
+use Rattle.vx_run.proofs.MemoryWrites.{same_setting}
 use Rattle.vx_run.proofs.JobSteps.{same_pieces, job_written, written_tables, written_fits, job_refused, refused_fits}
 use Rattle.vx_run.proofs.answer.write_batches.Goals as goal
 

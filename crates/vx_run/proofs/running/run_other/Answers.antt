@@ -1,6 +1,6 @@
 use Rattle.std.proofs.Common.{ℕ, map, subst}
 use Rattle.std.specs.Prelude.{string_bytes}
-use Rattle.vx_summary.specs.Summary.{summary}
+use Rattle.vx_run.specs.Summary.{summary}
 use Rattle.vx_run.specs.declared.status.Status.TheVariants.{Done}
 use Rattle.vx_run.specs.Answers.{IsText}
 use Rattle.vx_run.specs.Running.{Ends}

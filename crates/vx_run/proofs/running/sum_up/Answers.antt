@@ -1,5 +1,5 @@
 use Rattle.std.proofs.Common.{ℕ, List, subst, ◌∙◌}
-use Rattle.vx_summary.specs.Summary.{summary}
+use Rattle.vx_run.specs.Summary.{summary}
 use Rattle.vx_run.specs.declared.status.Status.TheVariants.{Done}
 use Rattle.vx_run.specs.Running.{Finishes}
 use Rattle.vx_run.proofs.RunSteps.{ends_done}

@@ -5,7 +5,7 @@ ghost use Rattle.vx_strategy.specs.StrategyView.{strategy_data};
 ghost use Rattle.vx_layout_tree.specs.LayoutView.{layout_data};
 ghost use Rattle.vx_generator.specs.TableStrategy.{table_strategy};
 ghost use Rattle.vx_generator_laws.specs.TableWrite.{most_rows};
-ghost use Rattle.vx_summary.specs.Summary.{IsWritten};
+ghost use Rattle.vx_run.specs.Summary.{IsWritten};
 
 use std::alloc::{AllocError, Global};
 use std::cell::Cell;

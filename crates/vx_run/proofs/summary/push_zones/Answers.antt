@@ -3,9 +3,9 @@ use Rattle.std.specs.Prelude.{string_bytes}
 use Rattle.vx_layout_spec.specs.LayoutTree.{LayoutData}
 use Rattle.vx_layout_tree.specs.LayoutView.{layout_data}
 use Rattle.vx_row_count.specs.Counting.{HasChild}
-use Rattle.vx_summary.specs.Summary.{columns_of}
-use Rattle.vx_summary.proofs.SummarySteps.{columns_are, next_zones}
-use Rattle.vx_summary.proofs.summary.push_zones.Goals as goal
+use Rattle.vx_run.specs.Summary.{columns_of}
+use Rattle.vx_run.proofs.SummarySteps.{columns_are, next_zones}
+use Rattle.vx_run.proofs.summary.push_zones.Goals as goal
 
 pub zones_at-requires : goal.zones_at-requires
 zones_at-requires c =

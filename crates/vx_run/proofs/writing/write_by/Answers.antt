@@ -3,9 +3,9 @@ use Rattle.vx_sink.specs.ContextView.{is_marked}
 use Rattle.vx_compressor_spec.specs.TableImage.{table_image}
 use Rattle.vx_write.specs.Context.{setting_of}
 use Rattle.vx_generator.specs.Generated.{table_batches}
-use Rattle.vx_summary.proofs.MemoryWrites.{same_setting, is_calm, never_listed}
-use Rattle.vx_summary.proofs.WriteSteps.{table_written, valid_start}
-use Rattle.vx_summary.proofs.writing.write_by.Goals as goal
+use Rattle.vx_run.proofs.MemoryWrites.{same_setting, is_calm, never_listed}
+use Rattle.vx_run.proofs.WriteSteps.{table_written, valid_start}
+use Rattle.vx_run.proofs.writing.write_by.Goals as goal
 
 pub returns-in-Ok : goal.returns-in-Ok
 returns-in-Ok g c =

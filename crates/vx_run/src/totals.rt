@@ -1,7 +1,7 @@
 //! Sizes of segments.
 
 ghost use Rattle.std.specs.Prelude.{◌≡◌};
-ghost use Rattle.vx_summary.specs.Summary.{bytes_in};
+ghost use Rattle.vx_run.specs.Summary.{bytes_in};
 
 use vx_model::Blob;
 

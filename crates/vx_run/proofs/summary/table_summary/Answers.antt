@@ -3,9 +3,9 @@ use Rattle.std.proofs.lemmas.Result.{IfOk-weaker}
 use Rattle.std.specs.Prelude.{string_bytes}
 use Rattle.vx_layout_spec.specs.LayoutTree.{row_count}
 use Rattle.vx_layout_tree.specs.LayoutView.{layout_data}
-use Rattle.vx_summary.specs.Summary.{summary_of, summary}
-use Rattle.vx_summary.proofs.SummarySteps.{summary_is}
-use Rattle.vx_summary.proofs.summary.table_summary.Goals as goal
+use Rattle.vx_run.specs.Summary.{summary_of, summary}
+use Rattle.vx_run.proofs.SummarySteps.{summary_is}
+use Rattle.vx_run.proofs.summary.table_summary.Goals as goal
 
 pub returns : goal.returns
 returns g c =

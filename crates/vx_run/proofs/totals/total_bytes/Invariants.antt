@@ -1,6 +1,6 @@
 use Rattle.std.proofs.Common.{◌≡◌, ◌+◌, ◌-◌, ◌*◌, ◌^◌, ◌≤◌, drop}
-use Rattle.vx_summary.specs.Summary.{bytes_in}
-use Rattle.vx_summary.proofs.bytes.total_bytes.Given as goal
+use Rattle.vx_run.specs.Summary.{bytes_in}
+use Rattle.vx_run.proofs.totals.total_bytes.Given as goal
 
 abbrev pub invariant-loop-segment : goal.invariant-loop-segment
 invariant-loop-segment l = record {

@@ -17,7 +17,7 @@ use Rattle.vx_plan.specs.SourcePlan.{source_values}
 use Rattle.vx_generator.specs.Generated.{table_type, rows_from, batch_count, batches_from, table_batches}
 use Rattle.vx_generator_laws.proofs.TableColumns.{rows_length}
 use Rattle.vx_row_count.proofs.CountSteps.{counts, has_child, columns}
-use Rattle.vx_summary.specs.Summary.{table_layout, table_segments, summary_of, summary, bytes_in, columns_of, zones_by, zone_counts, ColumnsThere, IsZoneCount}
+use Rattle.vx_run.specs.Summary.{table_layout, table_segments, summary_of, summary, bytes_in, columns_of, zones_by, zone_counts, ColumnsThere, IsZoneCount}
 
 -- ---- bytes
 

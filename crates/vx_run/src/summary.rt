@@ -8,9 +8,9 @@ ghost use Rattle.vx_segment_map.specs.SegmentView.{segment_in};
 ghost use Rattle.vx_layout_tree.specs.LayoutView.{layout_data};
 ghost use Rattle.vx_row_count.specs.Counting.{HasChild};
 ghost use Rattle.vx_generator_laws.specs.TableWrite.{most_rows};
-ghost use Rattle.vx_summary.specs.Summary.{columns_of, zone_count, zone_counts, ColumnsThere, IsZoneCount, summary_of, summary};
+ghost use Rattle.vx_run.specs.Summary.{columns_of, zone_count, zone_counts, ColumnsThere, IsZoneCount, summary_of, summary};
 
-use crate::bytes::total_bytes;
+use crate::totals::total_bytes;
 use crate::writing::write_table;
 use std::alloc::{AllocError, Global};
 use vx_layout_tree::{Layout, LayoutKind};

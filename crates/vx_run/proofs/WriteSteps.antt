@@ -10,8 +10,8 @@ use Rattle.vx_generator.specs.Generated.{table_type, table_batches}
 use Rattle.vx_generator.specs.TableStrategy.{table_strategy}
 use Rattle.vx_generator_laws.specs.TableWrite.{table_setting, most_rows, TableIsValid}
 use Rattle.vx_write.specs.Written.{Planned, Wrote}
-use Rattle.vx_summary.specs.Summary.{table_segments, IsWritten}
-use Rattle.vx_summary.proofs.MemoryWrites.{told_all}
+use Rattle.vx_run.specs.Summary.{table_segments, IsWritten}
+use Rattle.vx_run.proofs.MemoryWrites.{told_all}
 
 -- what the write starts from
 pub record Start (n : ℕ) (s : Setting) (w : StrategyData) (t : Ty) (m : Bool) (first tracker : ℕ) (came : Option (List ChunkData)) (old : Option (List (List ℕ))) : Type 0 where

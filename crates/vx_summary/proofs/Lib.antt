@@ -1,3 +1,0 @@
-pub mod MemoryWrites
-mod WriteSteps
-mod SummarySteps
