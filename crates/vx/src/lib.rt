@@ -88,8 +88,7 @@ pub mod sink {
 }
 
 /// What columns share that are written by a thread each: the sink under its lock, a seat for each column, the order of
-/// a column, the gate before its compressor, and the count of the bytes that workers hold. No call writes columns on
-/// threads yet.
+/// a column, the gate before its compressor, and the count of the bytes that workers hold.
 pub mod threads {
     pub use vx_column_order::ColumnOrder;
     pub use vx_gate::{Gate, Gated, NoGate};
@@ -148,11 +147,12 @@ pub mod machine {
     pub use vx_machine::{Machine, run};
 }
 
-/// Writing a stream of batches by a strategy.
+/// Writing a stream of batches by a strategy: by one machine, or column by column on threads.
 pub mod write {
     pub use vx_write::{
         ActionKind, Refused, Step, WriteError, Written, column_count, write_stream,
     };
+    pub use vx_write_columns::write_columns;
 }
 
 /// The program as a call, over any input and output.
@@ -161,4 +161,5 @@ pub mod run {
         ByteInput, ByteOutput, Command, Input, InputFailure, Nobody, Output, OutputFailure,
         Progress, RealInput, RealOutput, Status, run, run_told,
     };
+    pub use vx_run_columns::{run_columns, top, top_told};
 }

@@ -88,7 +88,7 @@ pub(crate) fn parse(alloc: Global, text: &str) -> Result<Case> {
             options,
         });
     }
-    ensure!(kind == "write" || kind == "tree", "no command");
+    ensure!(is_command(kind), "no command");
     let words = words_of(alloc, kind)?;
     let input = input_of(alloc, options.hex, job)?;
     Ok(Case {
@@ -96,6 +96,11 @@ pub(crate) fn parse(alloc: Global, text: &str) -> Result<Case> {
         input,
         options,
     })
+}
+
+/// Whether the word is a command that reads an input.
+fn is_command(word: &str) -> bool {
+    word == "write" || word == "columns" || word == "tree"
 }
 
 /// The options at the front of the text, and the text behind them.

@@ -11,7 +11,8 @@
 //! | `files`, `bytes` | of vx_file_cases |
 //!
 //! A case of the program is a name, options, and a command with its job, as `one most=7 write {"schema": ..}`; or a name,
-//! options and `words` with the program's words, on the empty input. The options: `most=N`, at most so many bytes a call;
+//! options and `words` with the program's words, on the empty input. Of `columns` they are such as end in one way alone,
+//! whatever its threads do. The options: `most=N`, at most so many bytes a call;
 //! `read_fails=N` and `write_fails=N`, the number of a call that fails, from 0; `hex`, where the job is hex text of the
 //! input's bytes. The answer is a line of the name and the status, and what was written; where that ends without a newline,
 //! another line says so.
@@ -29,29 +30,32 @@ use case::{Case, cut, parse};
 use kind::Kind;
 use std::alloc::Global;
 use std::io::{self, BufRead, BufReader, BufWriter, Write};
+use std::sync::Wait;
 use std::thread::Threads;
 use vx_case_lines::is_case;
-use vx_run::{ByteInput, ByteOutput, Status, run};
+use vx_gate::NoGate;
+use vx_run::{ByteInput, ByteOutput, Status};
+use vx_run_columns::top;
 
 /// How the program ends on a case, and what it has written by then.
-fn outcome(alloc: Global, case: Case) -> (Status, ByteOutput) {
+fn outcome<R: Threads + Wait + Sync>(rt: &R, alloc: Global, case: Case) -> (Status, ByteOutput) {
     let options = case.options;
     let mut input = ByteInput::new(case.input, options.most, options.read_fails);
     let mut output = ByteOutput::new(options.most, options.write_fails);
-    let status = run(alloc, &case.words, &mut input, &mut output);
+    let status = top(rt, alloc, &case.words, &mut input, &mut output, &NoGate);
     (status, output)
 }
 
 /// Prints the answer to the case of a line.
-fn print_answer<W: Write>(
-    rt: &impl Threads,
+fn print_answer<W: Write, R: Threads + Wait + Sync>(
+    rt: &R,
     alloc: Global,
     kind: Kind,
     line: &str,
     out: &mut W,
 ) -> Result<()> {
     if kind == Kind::Jobs {
-        return print_ended(alloc, line, out);
+        return print_ended(rt, alloc, line, out);
     }
     let text = kind.told(rt, alloc, line)?;
     out.write_all(text.as_bytes())?;
@@ -59,10 +63,15 @@ fn print_answer<W: Write>(
 }
 
 /// The same of a case of the program.
-fn print_ended<W: Write>(alloc: Global, line: &str, out: &mut W) -> Result<()> {
+fn print_ended<W: Write, R: Threads + Wait + Sync>(
+    rt: &R,
+    alloc: Global,
+    line: &str,
+    out: &mut W,
+) -> Result<()> {
     let (name, text) = cut(line);
     let case = parse(alloc, text).context(format_args!("in the line {line}"))?;
-    let (status, output) = outcome(alloc, case);
+    let (status, output) = outcome(rt, alloc, case);
     out.write_all(name.as_bytes())?;
     writeln!(out, ": status {}", status as u8)?;
     print_output(output.bytes(), out)?;

@@ -1,9 +1,11 @@
 //! The columns of all batches.
 
-ghost use Rattle.std.specs.Prelude.{◌≡◌, [], map, length, All, IsTrue, IfOk, IfErr, OnOk};
+ghost use Rattle.std.specs.Prelude.{◌≡◌, [], map, length, All, None, IsTrue, IfOk, IfErr, OnOk};
 ghost use Rattle.vx_model.specs.Ty.{is_struct};
 ghost use Rattle.vx_model.specs.TyView.{ty};
 ghost use Rattle.vx_model.specs.ChunkData.{piece_type};
+ghost use Rattle.vx_strategy_spec.specs.Walk.{duplicate};
+ghost use Rattle.vx_chunk_cells.specs.Parts.{struct_fields};
 ghost use Rattle.vx_split.specs.Causes.{IsRefused};
 ghost use Rattle.vx_column_batches.specs.Beside.{columns_of, width_of, chunks_beside, dealt};
 
@@ -24,6 +26,7 @@ pub fn split_all(
     requires typed { All (λ b. piece_type b ≡ ty dtype.now) batches.items }
     requires count { count ≡ width_of (ty dtype.now) }
     ensures columns { IfOk result (λ v. map (λ c. c.items) v.items ≡ chunks_beside count (map (columns_of (ty dtype.now)) batches.items)) }
+    ensures distinct { OnOk result (duplicate (struct_fields (ty dtype.now)) ≡ None) }
     ensures refused { IfErr result (IsRefused (ty dtype.now)) }
 {
     let split = ColumnSplit::new(alloc, dtype.clone()?)?;

@@ -1,5 +1,5 @@
 -- Where a column's own machine begins.
-use Rattle.std.proofs.Common.{◌≡◌, ◌^◌, ◌∙◌, ℕ, Bool, List, refl, sym, ap, subst, arith, Option, Some, []}
+use Rattle.std.proofs.Common.{◌≡◌, ◌^◌, ◌∙◌, ℕ, Bool, false, List, refl, sym, ap, subst, arith, Option, Some, []}
 use Rattle.std.proofs.lemmas.Bool.{true≢false}
 use Rattle.vx_model.specs.Ty.{Ty}
 use Rattle.vx_model.specs.ChunkData.{ChunkData}
@@ -10,6 +10,8 @@ use Rattle.vx_tasks.specs.Runs.{first_batch}
 use Rattle.vx_strategy_spec.specs.StrategyData.{StrategyData}
 use Rattle.vx_plan.specs.Statements.{StartFaultStands}
 use Rattle.vx_write_answer.specs.declared.error.WriteError.{WriteError}
+use Rattle.vx_write_answer.specs.declared.error.WriteError.TheVariants.{CompressFault}
+use Rattle.vx_write_answer.specs.Causes.{is_compress_fault}
 use Rattle.vx_moved_plans.specs.Moved.{column_eof}
 use Rattle.vx_machine_ids.specs.Stock.{both, end_stock}
 use Rattle.vx_machine_ids.specs.Balance.{Owned, Exact, Moved}
@@ -99,6 +101,11 @@ module _ (x : Course) (allowed : Allowed) (way : StrategyData) (t : Ty) (mark : 
       (subst (λ z. FormRefused allowed (form_at x.column.way x.column.type) z eof e) (sym g.mark_is)
       (subst (λ z. FormRefused allowed (form_at x.column.way z) mark eof e) (sym g.type_is)
       (subst (λ z. FormRefused allowed (form_at z t) mark eof e) (sym g.way_is) refused))))
+
+-- its compressor isn't asked
+pub none_pressed : (allowed : Allowed) (way : StrategyData) (t : Ty) (mark : Bool) (eof : Eof) (e : WriteError) → FormRefused allowed (form_at way t) mark eof e → is_compress_fault e ≡ false
+none_pressed allowed way t mark eof CompressFault h = absurd h
+none_pressed allowed way t mark eof e h = refl
 
 -- ---- its pointers
 

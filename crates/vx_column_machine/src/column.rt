@@ -1,11 +1,12 @@
 //! A column's own machine, step by step.
 
-ghost use Rattle.std.specs.Prelude.{◌≡◌, ◌+◌, ◌<◌, ◌^◌, false, true, Some, IsTrue, IfOk, IfErr, OnOk};
+ghost use Rattle.std.specs.Prelude.{◌≡◌, ◌+◌, ◌<◌, ◌^◌, false, true, [], Some, IsTrue, IfOk, IfErr, OnOk};
 ghost use Rattle.vx_model.specs.TyView.{ty};
 ghost use Rattle.vx_seats.specs.Turns.{NeverFails};
 ghost use Rattle.vx_strategy.specs.StrategyView.{strategy_data};
 ghost use Rattle.vx_sink.specs.ContextView.{is_marked, allowed_in, counted};
 ghost use Rattle.vx_layout_tree.specs.LayoutView.{layout_data};
+ghost use Rattle.vx_write_answer.specs.Causes.{is_compress_fault};
 ghost use Rattle.vx_desk.specs.DeskView.{universe_of};
 ghost use Rattle.vx_machine_view.specs.Machine.{is_finished as has_finished};
 ghost use Rattle.vx_machine_node.specs.Ledger.{told_by};
@@ -56,7 +57,9 @@ impl<B: BatchSource + Drop> ColumnMachine<B> {
         ensures balance { IfOk result (InBalance B.may_fail) }
         ensures underway { IfOk result (λ c. (x : Course) → IsGiven (allowed_in ctx) (strategy_data strategy.now) (B.kind source) (is_marked ctx) column (B.to_come source) x → Underway B.to_come B.kind x c) }
         ensures context { IfOk result (λ c. told_by c.ctx ≡ told_by ctx) }
+        ensures unwritten { IfOk result (λ c. c.paths.items ≡ []) }
         ensures refused { IfErr result (λ e. (x : Course) → IsGiven (allowed_in ctx) (strategy_data strategy.now) (B.kind source) (is_marked ctx) column (B.to_come source) x → HasCause x e) }
+        ensures uncompressed { IfErr result (λ e. is_compress_fault e ≡ false) }
     {
         vx_plan::start_faults_stand();
         vx_machine_turns::start_faults_agree();
@@ -164,7 +167,8 @@ impl<B: BatchSource + Drop> ColumnMachine<B> {
     /// The layout, and the paths of its segments.
     pub fn finish(self) -> (Layout, Vec<Path>)
         requires done { IsTrue (is_finished self.machine) × (has_finished (machine_of self.machine) ≡ true) }
-        ensures { (x : Course) → Underway B.to_come B.kind x self → IsDone (plan_of x) x.number (layout_data result.0) result.1.items }
+        ensures done { (x : Course) → Underway B.to_come B.kind x self → IsDone (plan_of x) x.number (layout_data result.0) result.1.items }
+        ensures paths { result.1.items ≡ self.paths.items }
     {
         vx_machine_runs::course_ends();
         vx_machine_runs::course_counts();

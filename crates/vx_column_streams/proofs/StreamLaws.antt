@@ -13,14 +13,14 @@ use Rattle.vx_column_batches.specs.Beside.{columns_of, width_of, chunks_beside}
 use Rattle.vx_column_streams.specs.Streams.{placed, StreamsAreColumns}
 
 -- the columns of each batch, and their paths
-abbrev rows_of : List Split → List (List ChunkData)
+abbrev pub rows_of : List Split → List (List ChunkData)
 rows_of xs = map (λ x. x.1) xs
 
 abbrev paths_at : ℕ → List Split → List (List ℕ)
 paths_at c xs = map (λ x. under x.0 c) xs
 
 -- the columns behind the first c
-abbrev behind : ℕ → List (List ChunkData) → List (List ChunkData)
+abbrev pub behind : ℕ → List (List ChunkData) → List (List ChunkData)
 behind zero rows = rows
 behind (suc c) rows = behind c (map tail rows)
 
@@ -36,7 +36,7 @@ other_paths : (c : ℕ) (xs : List Split) → paths_at c (other_columns xs) ≡ 
 other_paths c [] = refl
 other_paths c (x ∷ xs) = ap (λ ys. under x.0 c ∷ ys) (other_paths c xs)
 
-rows_behind : (k : ℕ) (xs : List Split) → rows_of (columns_after k xs) ≡ behind k (rows_of xs)
+pub rows_behind : (k : ℕ) (xs : List Split) → rows_of (columns_after k xs) ≡ behind k (rows_of xs)
 rows_behind zero xs = refl
 rows_behind (suc k) xs = rows_behind k (other_columns xs) ∙ ap (behind k) (other_rows xs)
 
@@ -51,7 +51,7 @@ chunks_at (suc w) (suc c) rows h = chunks_at w c (map tail rows) (omega (arith, 
 
 -- of a source's batches
 
-batch_rows : (fs : Tys) (n : Bool) (i : ℕ) (bs : List ChunkData) → rows_of (struct_splits fs n (batch_items i bs)) ≡ map (columns_of (struct fs n)) bs
+pub batch_rows : (fs : Tys) (n : Bool) (i : ℕ) (bs : List ChunkData) → rows_of (struct_splits fs n (batch_items i bs)) ≡ map (columns_of (struct fs n)) bs
 batch_rows fs n i [] = refl
 batch_rows fs n i (b ∷ bs) = ap (λ ys. struct_columns fs n b ∷ ys) (batch_rows fs n (suc i) bs)
 

@@ -6,6 +6,8 @@ pub(crate) fn key_advice(line: &str) -> &'static str {
         "bad job at json" =>
             "the input is no JSON, or more than 67,108,864 bytes or 127 levels of it",
         "bad job at job" => "the input is no object, or has a key that docs/JOB.md doesn't list",
+        "bad job at strategy" =>
+            "this key is missing, or docs/JOB.md doesn't allow its value; `columns` wants a `struct` or a `table` over a struct",
         _ => "this key is missing, or docs/JOB.md doesn't allow its value",
     }
 }

@@ -66,7 +66,7 @@ impl Display for Message<'_> {
     fn fmt<W: fmt::Write>(&self, f: &mut Formatter<W>) -> fmt::Result {
         match *self {
             Message::Usage => f.write_str(
-                "one word says what to do with standard input: `write` takes a job and `tree` a layout (docs/JOB.md, examples/); `gen N` sums up a table of N rows, 1 to 1000000",
+                "one word says what to do with standard input: `write` and `columns` take a job and `tree` a layout (docs/JOB.md, examples/); `gen N` sums up a table of N rows, 1 to 1000000",
             ),
             Message::BadJob(line) => write!(f, "{line}: {}", key_advice(line)),
             Message::Refused(line) => write!(f, "{line}: {}", refusal_advice(line)),

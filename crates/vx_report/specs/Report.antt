@@ -28,3 +28,12 @@ report first l segments tables steps rows =
 abbrev pub refused_report : List ℕ → ℕ → List (List ℕ) → List Step → List ℕ
 refused_report name first segments steps =
     codes "refused " ++ (name ++ (codes "\nsegments\n" ++ (segment_lines first segments ++ (codes "trace\n" ++ step_lines steps))))
+
+-- ---- of a write by columns, whose steps aren't told
+
+abbrev pub columns_report : ℕ → LayoutData ℕ → List (List ℕ) → List (List ValueData) → List ValueData → List ℕ
+columns_report first l segments tables rows =
+    codes "layout\n" ++ (display_text true l ++ (codes "segments\n" ++ (segment_lines first segments ++ (codes "zones\n" ++ (zone_lines 0 (zone_tables l) tables ++ (codes "rows\n" ++ row_lines rows))))))
+
+abbrev pub refused_columns : List ℕ → ℕ → List (List ℕ) → List ℕ
+refused_columns name first segments = codes "refused " ++ (name ++ (codes "\nsegments\n" ++ segment_lines first segments))

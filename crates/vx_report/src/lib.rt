@@ -6,5 +6,5 @@ mod row_text;
 mod trace_text;
 mod zone_text;
 
-pub use report_text::{refused_report, report};
+pub use report_text::{columns_report, refused_columns, refused_report, report};
 pub use zone_text::TableRows;

@@ -5,7 +5,7 @@ ghost use Rattle.vx_model.specs.TreeView.{val};
 ghost use Rattle.vx_layout_tree.specs.LayoutView.{layout_data};
 ghost use Rattle.vx_report.specs.ZoneText.{zone_tables};
 ghost use Rattle.vx_report.specs.TableView.{AreTables, rows_of};
-ghost use Rattle.vx_report.specs.Report.{report, refused_report, segment_line, segment_lines};
+ghost use Rattle.vx_report.specs.Report.{report, refused_report, columns_report, refused_columns, segment_line, segment_lines};
 
 use crate::row_text::push_rows;
 use crate::trace_text::push_steps;
@@ -43,6 +43,50 @@ pub fn report(
     push_steps(&mut out, steps)?;
     out.push_str("rows\n")?;
     push_rows(alloc, &mut out, rows)?;
+    Ok(out)
+}
+
+/// The report of a write by columns: that of a write without its steps.
+#[tactic(auto, using(crate::proofs::Lines::text_rules))]
+pub fn columns_report(
+    alloc: Global,
+    first: u64,
+    layout: &Layout,
+    segments: &[Blob],
+    tables: &[TableRows],
+    rows: &[Value],
+) -> Result<String, AllocError>
+    requires numbered { first + length segments.now < 2 ^ 64 }
+    requires tables { AreTables tables.now (zone_tables (layout_data layout.now)) }
+    ensures { IfOk result (λ text. string_bytes text ≡ columns_report first (layout_data layout.now) segments.now (rows_of tables.now) (map val rows.now)) }
+{
+    let mut out = String::from_str(alloc, "layout\n")?;
+    let tree = layout.display_tree_verbose(alloc, true)?;
+    out.push_str(tree.as_str())?;
+    out.push_str("segments\n")?;
+    push_segments(alloc, &mut out, first, segments)?;
+    out.push_str("zones\n")?;
+    push_tables(alloc, &mut out, tables)?;
+    out.push_str("rows\n")?;
+    push_rows(alloc, &mut out, rows)?;
+    Ok(out)
+}
+
+/// The report of a refused write by columns: that of a refused write without its steps.
+#[tactic(auto, using(crate::proofs::Lines::text_rules))]
+pub fn refused_columns(
+    alloc: Global,
+    name: &str,
+    first: u64,
+    segments: &[Blob],
+) -> Result<String, AllocError>
+    requires { first + length segments.now < 2 ^ 64 }
+    ensures { IfOk result (λ text. string_bytes text ≡ refused_columns name.now first segments.now) }
+{
+    let mut out = String::from_str(alloc, "refused ")?;
+    out.push_str(name)?;
+    out.push_str("\nsegments\n")?;
+    push_segments(alloc, &mut out, first, segments)?;
     Ok(out)
 }
 

@@ -68,7 +68,8 @@ pub same_pieces : (xs : List ChunkData) → map piece xs ≡ xs
 same_pieces [] = refl
 same_pieces (x ∷ xs) = ap (λ (ys : List ChunkData). x ∷ ys) (same_pieces xs)
 
-told_rest : (taken : List ChunkData) (a c : Option (List ChunkData)) (xs : List ChunkData) → a ≡ before_told taken c → a ≡ Some xs → (later : List ChunkData) × (c ≡ Some later)
+-- what it tells now is the rest
+pub told_rest : (taken : List ChunkData) (a c : Option (List ChunkData)) (xs : List ChunkData) → a ≡ before_told taken c → a ≡ Some xs → (later : List ChunkData) × (c ≡ Some later)
 told_rest taken a None xs e f = absurd (let g : None ≡ Some xs = sym e ∙ f in cc)
 told_rest taken a (Some later) xs e f = (later, refl)
 
@@ -157,7 +158,7 @@ answers_before taken heard steps errors.SourceFault (inr h) still is = absurd h.
 answers_before taken heard steps e h still is = absurd (let f : false ≡ true = is in cc)
 
 -- which are some of the job's
-taken_within : (taken later xs : List ChunkData) (a c : Option (List ChunkData)) → a ≡ before_told taken c → a ≡ Some xs → c ≡ Some later → length taken ≤ length xs
+pub taken_within : (taken later xs : List ChunkData) (a c : Option (List ChunkData)) → a ≡ before_told taken c → a ≡ Some xs → c ≡ Some later → length taken ≤ length xs
 taken_within taken later xs a c came is rest =
     let e : Some xs ≡ Some (taken ++ later) = sym is ∙ (came ∙ ap (before_told taken) rest) in
     let same : xs ≡ taken ++ later = cc in

@@ -1,11 +1,11 @@
-mod MemoryWrites
+pub mod MemoryWrites
 mod WriteSteps
 mod SummarySteps
-mod RunSteps
-mod Promises
-mod ShapeSteps
-mod TableSteps
-mod JobSteps
+pub mod RunSteps
+pub mod Promises
+pub mod ShapeSteps
+pub mod TableSteps
+pub mod JobSteps
 mod BackSteps
 mod TreeSteps
 mod WordSteps

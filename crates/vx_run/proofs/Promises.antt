@@ -12,7 +12,8 @@ use Rattle.vx_run.specs.Running.{usage, is_input_fault, is_output_fault, is_usag
 use Rattle.vx_run.specs.Runs.{Pipe, FaultTold, most_taken, RunsCommand, Runs}
 use Rattle.vx_run.proofs.RunSteps.{took_none, written_or_memory, shown_or_memory, summed_or_memory}
 
-took_most : (status : Status) (a b : Option (List ℕ)) → Took (limit + 1) a b → (is_input_fault status ≡ true → Took limit a b) → Took (most_taken status) a b
+-- by what was taken of the input where it failed, and where it didn't
+pub took_most : (status : Status) (a b : Option (List ℕ)) → Took (limit + 1) a b → (is_input_fault status ≡ true → Took limit a b) → Took (most_taken status) a b
 took_most InputFault a b took early = early refl
 took_most OutputFault a b took early = took
 took_most OutOfMemory a b took early = took

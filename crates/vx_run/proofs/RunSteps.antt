@@ -66,7 +66,7 @@ same_value read more ended = by_length (ltb limit (length read)) refl
         let short : length read ≤ limit = ltb-false limit (length read) e in
         ap json_of (ap (λ (r : List ℕ). read ++ r) (ended short) ∙ append-nil read)
 
-read_value_is : (before now : Option (List ℕ)) (bytes read : List ℕ) → before ≡ Some bytes → HasRead before now read → json_of read ≡ json_of bytes
+pub read_value_is : (before now : Option (List ℕ)) (bytes read : List ℕ) → before ≡ Some bytes → HasRead before now read → json_of read ≡ json_of bytes
 read_value_is None now bytes read told h = absurd cc
 read_value_is (Some all) None bytes read told h = absurd h.consumed
 read_value_is (Some all) (Some more) bytes read told h =
@@ -80,7 +80,7 @@ answers_told Tree before now bytes read status text told h answers = subst (λ (
 
 -- ---- statuses of answers
 
-pub is_answered : Status → Bool
+unfoldable pub is_answered : Status → Bool
 is_answered Done = true
 is_answered BadJob = true
 is_answered Refused = true
@@ -130,11 +130,15 @@ wrote_it P InputFault text before now is answers wrote = absurd (cc is)
 wrote_it P OutputFault text before now is answers wrote = absurd (cc is)
 wrote_it P OutOfMemory text before now is answers wrote = absurd (cc is)
 
+-- A text that is an answer of its status is printed whole, or a front of it.
+pub ends_by : (P : Status → List ℕ → Type 0) (status : Status) (text : List ℕ) (before now : Option (List ℕ)) (result : Status) → is_answered status ≡ true → P status text → Finishes status text before now result → Ends P before now result
+ends_by P status text before now result is answers (inl all) = subst (Ends P before now) (sym all.0) (wrote_it P status text before now is answers all.1)
+ends_by P status text before now result is answers (inr (inl failed, front)) = subst (Ends P before now) (sym failed) (record { status = status; text = text; answers = answers; count = front.count; wrote = front.wrote })
+ends_by P status text before now result is answers (inr (inr memory, front)) = subst (Ends P before now) (sym memory) (inr (record { status = status; text = text; answers = answers; count = front.count; wrote = front.wrote }))
+
 pub ends_so : (c : Command) (bytes : List ℕ) (status : Status) (text : List ℕ) (before now : Option (List ℕ)) (result : Status) → Answers c bytes status text → Finishes status text before now result
     → Ends (Answers c bytes) before now result
-ends_so c bytes status text before now result answers (inl all) = subst (Ends (Answers c bytes) before now) (sym all.0) (wrote_it (Answers c bytes) status text before now (answered c bytes status text answers) answers all.1)
-ends_so c bytes status text before now result answers (inr (inl failed, front)) = subst (Ends (Answers c bytes) before now) (sym failed) (record { status = status; text = text; answers = answers; count = front.count; wrote = front.wrote })
-ends_so c bytes status text before now result answers (inr (inr memory, front)) = subst (Ends (Answers c bytes) before now) (sym memory) (inr (record { status = status; text = text; answers = answers; count = front.count; wrote = front.wrote }))
+ends_so c bytes status text before now result answers finishes = ends_by (Answers c bytes) status text before now result (answered c bytes status text answers) answers finishes
 
 not_usage : (status : Status) → is_answered status ≡ true → is_usage status ≡ false
 unfolding is_answered
@@ -146,10 +150,13 @@ not_usage InputFault is = refl
 not_usage OutputFault is = refl
 not_usage OutOfMemory is = refl
 
+pub known_by : (status : Status) (text : List ℕ) (before now : Option (List ℕ)) (result : Status) → is_answered status ≡ true → Finishes status text before now result → is_usage result ≡ false
+known_by status text before now result is (inl all) = ap is_usage all.0 ∙ not_usage status is
+known_by status text before now result is (inr (inl failed, front)) = ap is_usage failed
+known_by status text before now result is (inr (inr memory, front)) = ap is_usage memory
+
 pub ends_known : (c : Command) (bytes : List ℕ) (status : Status) (text : List ℕ) (before now : Option (List ℕ)) (result : Status) → Answers c bytes status text → Finishes status text before now result → is_usage result ≡ false
-ends_known c bytes status text before now result answers (inl all) = ap is_usage all.0 ∙ not_usage status (answered c bytes status text answers)
-ends_known c bytes status text before now result answers (inr (inl failed, front)) = ap is_usage failed
-ends_known c bytes status text before now result answers (inr (inr memory, front)) = ap is_usage memory
+ends_known c bytes status text before now result answers finishes = known_by status text before now result (answered c bytes status text answers) finishes
 
 no_fault : (before now : ℕ) → Counts before now true → IsCalm before now → ⊥
 no_fault before now rose calm = absurd (omega (arith, rose.0, rose.1, calm.0, calm.1))
@@ -165,7 +172,7 @@ valid_done j OutputFault text no_faults valid answers = absurd answers
 valid_done j OutOfMemory text no_faults valid answers = absurd answers
 
 -- Where nothing fails, a run whose answers all have one status ends with it, or memory ran out.
-calm_end : (P : Status → List ℕ → Type 0) (wanted : Status) → ((status : Status) (text : List ℕ) → P status text → status ≡ wanted) → (before now : Option (List ℕ)) (result : Status) (ins ins_now outs outs_now : ℕ)
+pub calm_end : (P : Status → List ℕ → Type 0) (wanted : Status) → ((status : Status) (text : List ℕ) → P status text → status ≡ wanted) → (before now : Option (List ℕ)) (result : Status) (ins ins_now outs outs_now : ℕ)
     → Ends P before now result → Counts ins ins_now (is_input_fault result) → IsCalm ins ins_now → Counts outs outs_now (is_output_fault result) → IsCalm outs outs_now → (result ≡ wanted) ⊎ (result ≡ OutOfMemory)
 calm_end P wanted only before now Done ins ins_now outs outs_now ends rose calm risen still = inl (only Done ends.text ends.answers)
 calm_end P wanted only before now Usage ins ins_now outs outs_now ends rose calm risen still = inl (only Usage ends.text ends.answers)
@@ -196,9 +203,7 @@ summed_or_memory n before now result outs outs_now ends unread risen still =
 
 -- a text that is printed whole, or in part, is the one of its status
 pub ends_text : (wanted : Status) (line : List ℕ) (before now : Option (List ℕ)) (result : Status) → is_answered wanted ≡ true → Finishes wanted line before now result → Ends (IsText wanted line) before now result
-ends_text wanted line before now result is (inl all) = subst (Ends (IsText wanted line) before now) (sym all.0) (wrote_it (IsText wanted line) wanted line before now is (refl, refl) all.1)
-ends_text wanted line before now result is (inr (inl failed, front)) = subst (Ends (IsText wanted line) before now) (sym failed) (record { status = wanted; text = line; answers = (refl, refl); count = front.count; wrote = front.wrote })
-ends_text wanted line before now result is (inr (inr memory, front)) = subst (Ends (IsText wanted line) before now) (sym memory) (inr (record { status = wanted; text = line; answers = (refl, refl); count = front.count; wrote = front.wrote }))
+ends_text wanted line before now result is finishes = ends_by (IsText wanted line) wanted line before now result is (refl, refl) finishes
 
 pub ends_done : (line : List ℕ) (before now : Option (List ℕ)) (result : Status) → Finishes Done line before now result → Ends (IsText Done line) before now result
 unfolding is_answered

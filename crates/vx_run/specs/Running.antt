@@ -6,7 +6,7 @@ use Rattle.vx_run.specs.declared.status.Status.{Status}
 use Rattle.vx_run.specs.declared.status.Status.TheVariants.{Done, Usage, BadJob, Refused, InputFault, OutputFault, OutOfMemory}
 
 abbrev pub usage : List ℕ
-usage = codes "usage: vx_tool write | gen N | tree\n"
+usage = codes "usage: vx_tool write | gen N | tree | columns\n"
 
 abbrev pub is_input_fault : Status → Bool
 is_input_fault InputFault = true

@@ -33,7 +33,7 @@ use vx_write::{Step, WriteError, write_stream};
 
 /// A status, and the text that is printed before it.
 #[derive(Debug, Drop)]
-pub(crate) struct Answer {
+pub struct Answer {
     pub status: Status,
     pub text: String,
 }
@@ -53,8 +53,9 @@ pub(crate) fn answer_to<P: Progress + Drop>(
     }
 }
 
+/// The answer to bytes that are no job.
 #[tactic(auto, using(crate::proofs::RunSteps::text_rules))]
-pub(crate) fn bad_job(alloc: Global, key: Key) -> Result<Answer, AllocError>
+pub fn bad_job(alloc: Global, key: Key) -> Result<Answer, AllocError>
     ensures { IfOk result (λ a. IsText statuses.BadJob (bad_job key) a.status (string_bytes a.text)) }
 {
     let mut text = String::from_str(alloc, "bad job at ")?;
@@ -128,7 +129,7 @@ fn write_batches<P: Progress + Drop>(
 }
 
 /// What a job's write may use.
-fn context(
+pub fn context(
     encodings: ArrayContext,
     aggregates: Option<Vec<Text>>,
     marked: bool,
@@ -174,7 +175,7 @@ fn refusal(
 }
 
 /// The name of the error's variant.
-fn refusal_name(error: &WriteError) -> &'static str
+pub fn refusal_name(error: &WriteError) -> &'static str
     ensures { result.now ≡ refusal_name error.now }
 {
     match error {
@@ -223,7 +224,7 @@ fn written(
 
 /// The segments, numbered from the first.
 #[tactic(auto, using(crate::proofs::BackSteps::in_map))]
-fn numbered(first: u64, list: Vec<Blob>) -> SegmentMap
+pub fn numbered(first: u64, list: Vec<Blob>) -> SegmentMap
     requires { first + length list.items ≤ max first (2 ^ 32) }
     ensures list { result.list.items ≡ list.items }
     ensures segments { segment_in result ≡ segment_at first list.items }
@@ -234,7 +235,7 @@ fn numbered(first: u64, list: Vec<Blob>) -> SegmentMap
 }
 
 /// The rows that a layout gives from the segments.
-pub(crate) fn read_back(
+pub fn read_back(
     alloc: Global,
     layout: &Layout,
     segments: &SegmentMap,

@@ -15,11 +15,13 @@ mod totals;
 mod tree;
 mod writing;
 
+pub use answer::{Answer, bad_job, context, numbered, read_back, refusal_name};
 pub use command::Command;
 pub use input::{Input, InputFailure};
 pub use memory::{ByteInput, ByteOutput};
 pub use output::{Output, OutputFailure};
 pub use real::{RealInput, RealOutput};
-pub use running::{run, run_told};
+pub use running::{finish, read_all, run, run_told};
 pub use status::Status;
+pub use tables::read_tables;
 pub use vx_progress::{Nobody, Progress};

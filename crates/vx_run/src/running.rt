@@ -82,7 +82,7 @@ fn run_other<O: Output, P: Progress + Drop>(
         Ok(None) => finish(
             output,
             Status::Usage,
-            "usage: vx_tool write | gen N | tree\n",
+            "usage: vx_tool write | gen N | tree | columns\n",
         ),
         Err(_) => Status::OutOfMemory,
     }
@@ -140,7 +140,7 @@ fn run_command<I: Input, O: Output, P: Progress + Drop>(
 
 /// Reads to the end, or one byte past the limit.
 #[tactic(auto, using(crate::proofs::RunSteps::read_rules))]
-fn read_all<I: Input>(alloc: Global, input: &mut I) -> Result<Vec<u8>, InputFailure>
+pub fn read_all<I: Input>(alloc: Global, input: &mut I) -> Result<Vec<u8>, InputFailure>
     ensures read { IfOk result (λ bytes. HasRead (I.to_come input.old) (I.to_come input.new) bytes.items) }
     ensures took { OnErr result (Took limit (I.to_come input.old) (I.to_come input.new)) }
     ensures count { Counts (I.faults input.old) (I.faults input.new) (input_failed result) }
@@ -164,7 +164,7 @@ fn read_all<I: Input>(alloc: Global, input: &mut I) -> Result<Vec<u8>, InputFail
 }
 
 /// Writes the text, and gives the status unless that fails.
-fn finish<O: Output>(output: &mut O, status: Status, text: &str) -> Status
+pub fn finish<O: Output>(output: &mut O, status: Status, text: &str) -> Status
     requires { is_output_fault status ≡ false }
     ensures count { Counts (O.faults output.old) (O.faults output.new) (is_output_fault result) }
     ensures may { is_output_fault result ≡ true → MayFail (O.may_fail output.old) }

@@ -19,7 +19,7 @@ use vx_row_count::child_there;
 /// The tables of the layout, a node's own before those below it.
 ///
 /// Looks at each node once, and reads the rows of each table.
-pub(crate) fn read_tables(
+pub fn read_tables(
     alloc: Global,
     layout: &Layout,
     segments: &SegmentMap,

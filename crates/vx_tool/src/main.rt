@@ -5,8 +5,10 @@
 use std::alloc::AllocError;
 use std::env::{Env, FillError};
 use std::process::ExitCode;
+use vx_gate::NoGate;
 use vx_messages::{Front, Message, ProgressLines};
-use vx_run::{RealInput, RealOutput, Status, run_told};
+use vx_run::{RealInput, RealOutput, Status};
+use vx_run_columns::top_told;
 
 // A word that is longer is no command.
 const WORD: usize = 16;
@@ -18,7 +20,15 @@ fn main(rt: HostRuntime) -> ExitCode {
     let mut input = RealInput::new(rt.stdin());
     let mut output = Front::new(RealOutput::new(rt.stdout()));
     let progress = ProgressLines::new(&rt);
-    let status = run_told(rt.alloc(), &words, &mut input, &mut output, progress);
+    let status = top_told(
+        &rt,
+        rt.alloc(),
+        &words,
+        &mut input,
+        &mut output,
+        &NoGate,
+        progress,
+    );
     end(&rt, status, output.front())
 }
 

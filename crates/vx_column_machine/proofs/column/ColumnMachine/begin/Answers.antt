@@ -1,5 +1,6 @@
 use Rattle.std.proofs.Common.{◌∙◌, sym}
 use Rattle.std.proofs.lemmas.Result.{err_from_is_err_and}
+use Rattle.vx_model.specs.TyView.{ty}
 use Rattle.vx_sequence.specs.Universe.{Active}
 use Rattle.vx_strategy.specs.StrategyView.{strategy_data}
 use Rattle.vx_sink.specs.ContextView.{is_marked, allowed_in}
@@ -9,7 +10,7 @@ use Rattle.vx_machine_ids.proofs.MoveLaws.{owned_now}
 use Rattle.vx_machine.specs.View.{machine_of}
 use Rattle.vx_machine.specs.Whole.{machine_stock}
 use Rattle.vx_machine.proofs.HeldViews.{exact_then}
-use Rattle.vx_column_machine.proofs.Beginning.{root_owned, outset_owned, outset_held, still_kept, still_next, stands, begin_cause}
+use Rattle.vx_column_machine.proofs.Beginning.{root_owned, outset_owned, outset_held, still_kept, still_next, stands, begin_cause, none_pressed}
 use Rattle.vx_column_machine.proofs.column.ColumnMachine.begin.Goals as goal
 
 pub column_pointers-requires-clause-owned : goal.column_pointers-requires-clause-owned
@@ -26,6 +27,12 @@ returns-in_err-machine-clause-refused g c =
     rw (p.1, p.2) (λ x given. begin_cause x (allowed_in c.args.ctx) (strategy_data c.args.strategy.now) (g.B.BatchSource.kind c.args.source) (is_marked c.args.ctx) c.args.column (g.B.BatchSource.to_come c.args.source) given
     c.in-Ok-column_pointers.stream c.in-Ok-column_pointers.eof c.in-Ok-column_pointers.ensures.pointers.0 c.in-Ok-column_pointers.ensures.pointers.1
     c.start_faults_stand.ensures.stands c.start_faults_agree.ensures c.course_ends.ensures.starts c.in_err-machine.field-0.0 (rw c.dtype.ensures at c.in_err-machine.ensures.refused))
+
+pub returns-in_err-machine-clause-uncompressed : goal.returns-in_err-machine-clause-uncompressed
+returns-in_err-machine-clause-uncompressed g c =
+    let p = err_from_is_err_and c.from_residual.result c.from_residual.ensures.1 in
+    rw (p.1, p.2) (none_pressed (allowed_in c.args.ctx) (strategy_data c.args.strategy.now) (ty c.dtype.result.now) (is_marked c.args.ctx) c.in-Ok-column_pointers.eof c.in_err-machine.field-0.0
+    c.in_err-machine.ensures.refused)
 
 pub returns-clause-balance : goal.returns-clause-balance
 returns-clause-balance g c =

@@ -1,0 +1,4 @@
+mod Joining
+pub mod Named
+mod Numbered
+mod Places

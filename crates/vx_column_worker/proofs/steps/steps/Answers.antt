@@ -1,0 +1,40 @@
+use Rattle.std.proofs.Common.{◌∙◌, sym, arith, rules}
+use Rattle.vx_column_worker.proofs.Refused.{told_since, pressed_last}
+use Rattle.vx_column_worker.proofs.Handed.{as_kind}
+use Rattle.vx_column_worker.proofs.steps.steps.Goals as goal
+
+pub turn-requires-clause-at_work : goal.turn-requires-clause-at_work
+turn-requires-clause-at_work g c =
+    let a = c.requires.at_work in
+    (a.0, as_kind g.B.BatchSource.to_come g.B.BatchSource.kind g.P.Pairs.pairs g.D.CompressorPlugin.image (g.D.CompressorPlugin.kind c.args.compressor.now) (g.D.CompressorPlugin.kind c.steps.compressor) a.0 c.steps.machine (sym c.steps.invariant.kind) (c.steps.invariant.at_work a.0 a.1))
+
+pub steps-preserved : goal.steps-preserved
+steps-preserved g c = record {
+  goes = search rules;
+  balance = c.in-Ok.ensures.balance;
+  at_work = λ x w.
+      as_kind g.B.BatchSource.to_come g.B.BatchSource.kind g.P.Pairs.pairs g.D.CompressorPlugin.image (g.D.CompressorPlugin.kind c.steps.compressor) (g.D.CompressorPlugin.kind c.args.compressor.now) x c.turn.new.machine c.steps.invariant.kind
+      (c.in-Ok.ensures.at_work x (as_kind g.B.BatchSource.to_come g.B.BatchSource.kind g.P.Pairs.pairs g.D.CompressorPlugin.image (g.D.CompressorPlugin.kind c.args.compressor.now) (g.D.CompressorPlugin.kind c.steps.compressor) x c.steps.machine (sym c.steps.invariant.kind) (c.steps.invariant.at_work x w)));
+  writes = let a = c.steps.invariant.writes in let b = c.in-Ok.ensures.writes in omega (arith, a, b);
+  column = c.in-Ok.ensures.column ∙ c.steps.invariant.column;
+  faults = c.in-Ok.ensures.seat.fault ∙ c.steps.invariant.faults;
+  made = c.in-Ok.ensures.seat.unmade ∙ c.steps.invariant.made;
+  seen = c.in-Ok.ensures.seat.saw ∙ c.steps.invariant.seen;
+  kind = c.in-Ok.ensures.kind ∙ c.steps.invariant.kind;
+  pressed = c.in-Ok.ensures.pressed.0 ∙ c.steps.invariant.pressed;
+  steady = λ n. c.in-Ok.ensures.pressed.1 (c.steps.invariant.steady n);
+}
+
+pub returns-in-Err-clause-refused : goal.returns-in-Err-clause-refused
+returns-in-Err-clause-refused g c = λ x w.
+    c.in-Err.ensures.refused x (as_kind g.B.BatchSource.to_come g.B.BatchSource.kind g.P.Pairs.pairs g.D.CompressorPlugin.image (g.D.CompressorPlugin.kind c.args.compressor.now) (g.D.CompressorPlugin.kind c.steps.compressor) x c.steps.machine (sym c.steps.invariant.kind) (c.steps.invariant.at_work x w))
+
+pub returns-in-Err-clause-seat : goal.returns-in-Err-clause-seat
+returns-in-Err-clause-seat g c =
+    told_since c.in-Err.error c.args.seat.now.faults.amount c.steps.seat.faults.amount c.turn.new.seat.faults.amount c.args.seat.now.made.amount c.steps.seat.made.amount c.turn.new.seat.made.amount
+    c.args.seat.now.seen.amount c.steps.seat.seen.amount c.turn.new.seat.seen.amount c.steps.invariant.faults c.steps.invariant.made c.steps.invariant.seen c.in-Err.ensures.seat
+
+pub returns-in-Err-clause-pressed : goal.returns-in-Err-clause-pressed
+returns-in-Err-clause-pressed g c =
+    pressed_last (Unit {0}) (Unit {0}) (g.D.Fallible.faults c.args.compressor.now) (g.D.Fallible.faults c.steps.compressor) (g.D.Fallible.faults c.turn.new.compressor) (g.D.Fallible.may_fail c.args.compressor.now)
+    (g.D.Fallible.may_fail c.steps.compressor) (g.D.Fallible.may_fail c.turn.new.compressor) c.in-Err.error c.steps.invariant.pressed c.steps.invariant.steady c.in-Err.ensures.pressed

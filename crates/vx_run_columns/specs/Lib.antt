@@ -1,0 +1,3 @@
+pub mod BesideAnswers
+pub mod Compressors
+pub mod RunsBeside
