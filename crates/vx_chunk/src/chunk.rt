@@ -5,6 +5,7 @@ ghost use Rattle.vx_model.specs.Words.{all_by};
 ghost use Rattle.vx_model.specs.CellData.{fits};
 ghost use Rattle.vx_model.specs.TyView.{ty};
 ghost use Rattle.vx_model.specs.TreeView.{tree};
+ghost use Rattle.vx_column.specs.ColumnView.{column_cells};
 ghost use Rattle.vx_model.specs.ChunkData.{plain_piece, constant_piece, dict_piece, chunked_piece, list_piece, struct_piece, extension_piece, pieces_of, joined_cells, are_parts, has_storage, piece_type};
 ghost use Rattle.vx_chunk.specs.Conditions.{makes_dict, makes_list, makes_struct, IsPast};
 
@@ -12,6 +13,7 @@ use crate::error::ChunkError;
 use crate::node::{Chunk, Node};
 use crate::reads::{all_sound, total_rows};
 use std::alloc::Global;
+use vx_column::Column;
 use vx_model::{Cell, DType};
 
 impl Chunk {
@@ -21,7 +23,21 @@ impl Chunk {
         ensures { result ≡ plain_piece (ty dtype) (map tree cells.items) }
     {
         Chunk {
-            node: Node::Plain { dtype, cells },
+            node: Node::Plain {
+                dtype,
+                column: Column::Cells(cells),
+            },
+        }
+    }
+
+    /// The rows of a column. `vx_model::fits` tests the condition of cells.
+    pub fn column(dtype: DType, column: Column) -> Chunk
+        requires { IsTrue (all_by (fits (ty dtype)) (column_cells column)) }
+        ensures { result ≡ plain_piece (ty dtype) (column_cells column) }
+    {
+        let _rows = column.len();
+        Chunk {
+            node: Node::Plain { dtype, column },
         }
     }
 

@@ -8,7 +8,7 @@ ghost use Rattle.vx_layout_spec.specs.Parts.{flag_of as is_valid, validity_piece
 use crate::error::ChunkError;
 use crate::node::{Chunk, Node};
 use std::alloc::{AllocError, Global};
-use vx_chunk_cells::{bool_cells, flag_of, push_flags, push_row_flags, push_same_flag};
+use vx_chunk_cells::{bool_cells, flag_of, push_row_flags, push_same_flag};
 use vx_model::{DType, Nullability};
 
 impl Chunk {
@@ -40,7 +40,7 @@ fn push_valid(chunk: &Chunk, out: &mut Vec<bool>) -> Result<(), AllocError>
     ensures { OnOk result (out.new.items ≡ out.old.items ++ map is_valid (cells_in chunk.now)) }
 {
     match &chunk.node {
-        Node::Plain { cells, .. } => push_flags(cells, out),
+        Node::Plain { column, .. } => column.push_flags(out),
         Node::Constant { cell, rows, .. } => push_same_flag(flag_of(cell), *rows, out),
         Node::Dict { codes, .. } => push_same_flag(true, codes.len(), out),
         Node::Chunked { parts, .. } => push_parts_valid(parts, out),

@@ -13,7 +13,7 @@ use vx_chunk_cells::into_values;
 use vx_model::{Cell, Value};
 
 impl Chunk {
-    /// The rows as cells. Those of plain chunks are moved, under extensions and in parts too; others are copied.
+    /// The rows as cells. Those that plain chunks keep are moved, under extensions and in parts too; others are copied.
     pub fn into_cells(self, alloc: Global) -> Result<Vec<Cell>, ChunkError>
         ensures cells { IfOk result (λ v. map tree v.items ≡ cells_in self) }
         ensures memory { IfErr result (λ e. e ≡ ChunkError.OutOfMemory) }
@@ -37,9 +37,9 @@ fn own_cells(chunk: Chunk, alloc: Global) -> Result<Vec<Cell>, AllocError>
 {
     let Chunk { node } = chunk;
     match node {
-        Node::Plain { dtype, cells } => {
+        Node::Plain { dtype, column } => {
             drop(dtype);
-            Ok(cells)
+            column.into_cells(alloc)
         }
         Node::Chunked { dtype, parts } => {
             drop(dtype);
