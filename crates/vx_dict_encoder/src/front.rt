@@ -14,6 +14,7 @@ ghost use Rattle.vx_dict_encoder.specs.Coding.{GoesOn, Ends};
 
 use std::alloc::{AllocError, Global};
 use vx_chunk::{Chunk, ChunkError};
+use vx_column::Column;
 use vx_model::{Cell, DType};
 use vx_runs::cost_with;
 use vx_slots::CellTable;
@@ -57,7 +58,7 @@ pub(crate) fn chunk_front(
     ensures coded { IfOk result (λ v. IsTrue (all_by (is_code_of (dict_options limits 0)) v.items)) }
     ensures memory { IfErr result (λ e. e ≡ ChunkError.OutOfMemory) }
 {
-    if let Some(cells) = rows.as_cells() {
+    if let Some(Column::Cells(cells)) = rows.as_column() {
         return Ok(front(values, alloc, dtype, limits, cells)?);
     }
     let cells = rows.cells(alloc)?;

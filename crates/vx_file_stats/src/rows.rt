@@ -19,6 +19,7 @@ use crate::keeps::keeps;
 use std::alloc::{AllocError, Global};
 use vx_aggregate::{AggregateFn, Stat};
 use vx_chunk::Chunk;
+use vx_column::Column;
 use vx_model::{Cell, DType, Value};
 use vx_zone_record::{cells_value, null_count};
 
@@ -60,7 +61,7 @@ pub(crate) fn with_chunk(
         return Ok(before);
     }
     chunk.sound();
-    if let Some(cells) = chunk.as_cells() {
+    if let Some(Column::Cells(cells)) = chunk.as_column() {
         return with_cells(alloc, asked, limit, chunk.dtype(), cells, before);
     }
     let Ok(cells) = chunk.cells(alloc) else {

@@ -12,7 +12,8 @@ use Rattle.vx_model.specs.ChunkData.{ChunkData}
 use Rattle.vx_model.specs.TyView.{ty}
 use Rattle.vx_model.specs.TreeView.{tree}
 use Rattle.vx_model.specs.Codes.{ty_code, ty_of, ty_back}
-use Rattle.vx_chunk.specs.ChunkCode.{tree_code, tree_of, tree_back, piece_code}
+use Rattle.vx_typed.specs.CellCode.{tree_code, tree_of, tree_back}
+use Rattle.vx_chunk.specs.ChunkCode.{piece_code}
 use Rattle.vx_chunk.specs.Conditions.{are_of_type}
 
 -- A repartition: rows of a type, which leave in blocks of a multiple of `len` rows and of at least `minimum` bytes.

@@ -14,6 +14,7 @@ use crate::same::are_alike;
 use std::alloc::{AllocError, Global};
 use vx_chunk::Chunk;
 use vx_chunk_cells::{copy_cells, is_dict_type};
+use vx_column::Column;
 use vx_model::{Cell, DType, EncodingId};
 
 /// The chunk's image under the number.
@@ -25,9 +26,9 @@ pub(crate) fn image(alloc: Global, which: u32, chunk: &Chunk) -> Result<Chunk, A
     if which == 1 && is_constant(chunk) {
         return Ok(chunk.clone()?);
     }
-    match chunk.as_cells() {
-        Some(cells) => lent_image(alloc, which, chunk.dtype(), cells),
-        None => own_image(alloc, which, chunk.dtype(), cells_of(alloc, chunk)?),
+    match chunk.as_column() {
+        Some(Column::Cells(cells)) => lent_image(alloc, which, chunk.dtype(), cells),
+        _ => own_image(alloc, which, chunk.dtype(), cells_of(alloc, chunk)?),
     }
 }
 

@@ -22,6 +22,7 @@ use std::marker::Model;
 use std::num::NonZeroU32;
 use vx_aggregate::AggregateFn;
 use vx_chunk::Chunk;
+use vx_column::Column;
 use vx_model::{DType, Value};
 use vx_zone_record::{cells_record, held_aggregates};
 
@@ -165,14 +166,14 @@ fn held_record(
     ensures memory { IfErr result (λ e. e ≡ GuardError.OutOfMemory) }
 {
     chunk.sound();
-    if let Some(cells) = chunk.as_cells() {
+    if let Some(Column::Cells(cells)) = chunk.as_column() {
         let values = cells_record(alloc, aggregates, dtype, cells)?;
         return Ok(values);
     }
     copied_record(alloc, aggregates, dtype, chunk)
 }
 
-/// The record of the rows of a chunk that doesn't hold them as cells.
+/// The record of the rows of a chunk that doesn't keep them as cells.
 fn copied_record(
     alloc: Global,
     aggregates: &[AggregateFn],

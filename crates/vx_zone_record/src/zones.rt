@@ -39,7 +39,7 @@ pub fn zone_record(
     Ok(rows_record(alloc, aggregates, column, values)?)
 }
 
-/// The same of the rows that a reader sees of these cells, as `Chunk::as_cells` has them.
+/// The same of the rows that a reader sees of these cells, as a plain chunk keeps them.
 pub fn cells_record(
     alloc: Global,
     aggregates: &[AggregateFn],
