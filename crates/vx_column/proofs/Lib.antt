@@ -1,3 +1,4 @@
 pub mod Steps
 pub mod Flat
 pub mod SizeLaws
+pub mod Joined
