@@ -12,7 +12,7 @@ ghost use Rattle.vx_chunk.specs.Conditions.{makes_dict, makes_list, makes_struct
 use crate::error::ChunkError;
 use crate::node::{Chunk, Node};
 use crate::reads::{all_sound, total_rows};
-use std::alloc::Global;
+use std::alloc::{AllocError, Global};
 use vx_column::Column;
 use vx_model::{Cell, DType};
 
@@ -38,6 +38,20 @@ impl Chunk {
         let _rows = column.len();
         Chunk {
             node: Node::Plain { dtype, column },
+        }
+    }
+
+    /// The rows as typed values where the type has them, else as cells. `vx_model::fits` tests the condition.
+    pub fn typed(alloc: Global, dtype: DType, cells: Vec<Cell>) -> Result<Chunk, AllocError>
+        requires { IsTrue (all_by (fits (ty dtype)) (map tree cells.items)) }
+        ensures { IfOk result (λ c. c ≡ plain_piece (ty dtype) (map tree cells.items)) }
+    {
+        match Column::from_cells(alloc, &dtype, cells) {
+            Ok(column) => Ok(Chunk::column(dtype, column)),
+            Err(error) => {
+                drop(dtype);
+                Err(error)
+            }
         }
     }
 

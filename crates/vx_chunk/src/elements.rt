@@ -44,7 +44,7 @@ impl Chunk {
         push_lists_apart(self, &mut elements, &mut offsets)?;
         let valid = flags(self, alloc)?;
         let dtype = items_of(self.dtype()).clone()?;
-        Ok((Chunk::plain(dtype, elements), offsets, valid))
+        Ok((Chunk::typed(alloc, dtype, elements)?, offsets, valid))
     }
 
     /// The same parts. Plain elements of which each stands in a row are moved, with their offsets, where these begin at

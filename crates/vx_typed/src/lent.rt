@@ -5,6 +5,7 @@ ghost use Rattle.vx_model.specs.TreeView.{tree};
 ghost use Rattle.vx_typed.specs.Lent.{lent_cell};
 
 use std::alloc::{AllocError, Global};
+use vx_chunk_cells::copy_cells;
 use vx_model::{Blob, Cell, Text};
 
 /// A cell, of which what it holds is borrowed.
@@ -15,11 +16,12 @@ pub enum Lent<'a> {
     Int(i128),
     Utf8(&'a str),
     Binary(&'a [u8]),
-    /// A list or a struct.
-    Nested(&'a Cell),
+    List(bool, &'a [Cell]),
+    Struct(bool, &'a [Cell]),
 }
 
 /// The cell, lent.
+#[tactic(auto, using(vx_model::proofs::CellViews::cell_rules))]
 pub fn lend_cell(cell: &Cell) -> Lent<'_>
     ensures { lent_cell result ≡ tree cell.now }
 {
@@ -29,11 +31,13 @@ pub fn lend_cell(cell: &Cell) -> Lent<'_>
         Cell::Int(n) => Lent::Int(*n),
         Cell::Utf8(text) => Lent::Utf8(text.as_str()),
         Cell::Binary(bytes) => Lent::Binary(bytes.as_slice()),
-        Cell::List(..) | Cell::Struct(..) => Lent::Nested(cell),
+        Cell::List(valid, cells) => Lent::List(*valid, cells),
+        Cell::Struct(valid, cells) => Lent::Struct(*valid, cells),
     }
 }
 
 /// A cell of its own, a copy.
+#[tactic(auto, using(vx_model::proofs::CellViews::cell_rules))]
 pub fn own_cell(alloc: Global, cell: Lent<'_>) -> Result<Cell, AllocError>
     ensures { IfOk result (λ c. tree c ≡ lent_cell cell.entry) }
 {
@@ -43,6 +47,7 @@ pub fn own_cell(alloc: Global, cell: Lent<'_>) -> Result<Cell, AllocError>
         Lent::Int(n) => Ok(Cell::Int(n)),
         Lent::Utf8(text) => Ok(Cell::Utf8(Text::from_str(alloc, text)?)),
         Lent::Binary(bytes) => Ok(Cell::Binary(Blob::from_slice(alloc, bytes)?)),
-        Lent::Nested(cell) => cell.clone(),
+        Lent::List(valid, cells) => Ok(Cell::List(valid, copy_cells(alloc, cells)?)),
+        Lent::Struct(valid, cells) => Ok(Cell::Struct(valid, copy_cells(alloc, cells)?)),
     }
 }
