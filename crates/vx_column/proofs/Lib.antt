@@ -2,3 +2,4 @@ pub mod Steps
 pub mod Flat
 pub mod SizeLaws
 pub mod Joined
+pub mod Lents

@@ -1,6 +1,6 @@
 //! A column of any type.
 
-ghost use Rattle.std.specs.Prelude.{◌≡◌, ◌≤◌, ◌<◌, length, slice_index_or, IsTrue, IfOk};
+ghost use Rattle.std.specs.Prelude.{◌≡◌, ◌≤◌, ◌<◌, length, map, slice_index_or, IsTrue, IfOk};
 ghost use Rattle.vx_model.specs.Words.{all_by};
 ghost use Rattle.vx_model.specs.CellData.{null_cell};
 ghost use Rattle.vx_model.specs.TreeView.{tree};
@@ -60,6 +60,18 @@ impl Column {
             Column::Strings(strings) => strings.row(row),
             Column::Cells(cells) => lend_cell(&cells[row]),
         }
+    }
+
+    /// All rows, lent.
+    #[tactic(auto, using(crate::proofs::Lents::row_rules))]
+    pub fn rows(&self, alloc: Global) -> Result<Vec<Lent<'_>>, AllocError>
+        ensures { IfOk result (λ v. map lent_cell v.items ≡ column_cells self.now) }
+    {
+        let mut rows = Vec::with_capacity(alloc, self.len())?;
+        for row in 0..self.len() {
+            rows.push(self.row(row))?;
+        }
+        Ok(rows)
     }
 
     /// Rows `from` to `to`, the last not included: typed values in the same memory, cells as copies.
