@@ -212,7 +212,7 @@ fn value_bytes(values: &Chunk, place: Option<u128>) -> u128
     let place = place as u64;
     match &values.node {
         Node::Plain { dtype, column } => column.size_between(dtype, place, place + 1),
-        Node::Constant { dtype, cell, .. } => cell_size(dtype, cell),
+        Node::Constant { cell, .. } => cell_size(values.dtype(), cell),
         Node::Dict { .. } | Node::Chunked { .. } | Node::List { .. } => unreachable!(),
         Node::Struct { .. } | Node::Extension { .. } => unreachable!(),
     }
