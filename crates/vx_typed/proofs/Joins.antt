@@ -1,13 +1,12 @@
 -- Columns behind others.
 use Rattle.std.proofs.Common.{◌≡◌, ℕ, zero, suc, ◌+◌, ◌-◌, ◌<◌, ◌≤◌, ◌&&◌, Bool, true, false, List, [], ◌∷◌, ◌++◌, length, get_or, drop, take, refl, sym, ap, ap₂, ◌∙◌, append_assoc, length-append, arith}
-use Rattle.std.specs.Prelude.{if◌then◌else◌, min, replicate, nat_le}
-use Rattle.std.proofs.lemmas.List.{append-nil, length-take, length-take-le, length-replicate, take_all, drop_more, drop_all, drop-take, nil_from_length, take-take}
+use Rattle.std.specs.Prelude.{if◌then◌else◌, replicate, nat_le}
+use Rattle.std.proofs.lemmas.List.{append-nil, length-take-le, drop_more, drop_all, drop-take, nil_from_length, take-take}
 use Rattle.std.proofs.lemmas.Bool.{and_from, and_parts}
 use Rattle.vx_model.specs.Words.{all_by, head_or, tail}
 use Rattle.vx_model.specs.CellData.{CellData, null_cell}
 use Rattle.vx_model.specs.ChunkData.{are_offsets}
 use Rattle.vx_chunk_cells.specs.Window.{last_of}
-use Rattle.vx_chunk_cells.proofs.Windows.{take_same}
 use Rattle.vx_chunk_cells.proofs.Tests.{tests_le, le_test}
 use Rattle.vx_chunk_cells.proofs.ListSteps.{first_is, last_at}
 use Rattle.vx_chunk_cells.proofs.OffsetLaws.{offsets_within}
@@ -37,21 +36,21 @@ joined_some n m [] [] some = absurd (some refl refl)
 joined_some n m [] (c ∷ cs) some = refl
 joined_some n m (b ∷ bs) cs some = refl
 
+exact_front : (n m : ℕ) (fs cs : List Bool) → length fs ≡ n → exact_flags (n + m) (fs ++ cs) ≡ fs ++ exact_flags m cs
+exact_front zero m [] cs e = let z : 0 + m ≡ m = omega arith in ap (λ (k : ℕ). exact_flags k cs) z
+exact_front zero m (f ∷ fs) cs e = absurd (omega (arith, e))
+exact_front (suc n) m [] cs e = absurd (omega (arith, e))
+exact_front (suc n) m (f ∷ fs) cs e =
+    let z : suc n + m ≡ suc (n + m) = omega arith in
+    ap (λ (k : ℕ). exact_flags k (f ∷ fs ++ cs)) z ∙ ap (λ (r : List Bool). f ∷ r) (exact_front n m fs cs (omega (arith, e)))
+
 -- what resizing leaves, first to the rows and then to all
-pub resized : (n m : ℕ) (bs cs vs ws : List Bool) → vs ≡ (take n bs ++ replicate (n - length bs) true) ++ take (min (length cs) m) cs → ws ≡ take (n + m) vs ++ replicate ((n + m) - length vs) true
+pub resized : (n m : ℕ) (bs cs vs ws : List Bool) → vs ≡ (take n bs ++ replicate (n - length bs) true) ++ cs → ws ≡ take (n + m) vs ++ replicate ((n + m) - length vs) true
     → (length bs ≡ 0 → length cs ≡ 0 → ⊥) → ws ≡ joined_flags n bs m cs
 resized n m bs cs vs ws e f some =
-    let front : List Bool = take n bs ++ replicate (n - length bs) true in
-    let back : List Bool = take (min (length cs) m) cs in
-    let rest : List Bool = replicate (m - length cs) true in
-    let front_length : length (take n bs ++ replicate (n - length bs) true) ≡ n = simp (length-append, length-take, length-replicate) (omega arith) in
-    let back_length : length (take (min (length cs) m) cs) ≡ min (length cs) m = simp length-take (omega arith) in
-    let back_is : take (min (length cs) m) cs ≡ take m cs = take_same (min (length cs) m) m cs (omega arith) in
-    let long : length vs ≡ n + min (length cs) m = ap length e ∙ length-append front back ∙ ap₂ (λ (a b : ℕ). a + b) front_length back_length in
-    let whole : take (n + m) vs ≡ vs = take_all (n + m) vs (omega arith) in
-    let count : (n + m) - length vs ≡ m - length cs = omega arith in
-    f ∙ ap₂ (λ (a : List Bool) (k : ℕ). a ++ replicate k true) (whole ∙ e) count ∙ append_assoc front back rest
-    ∙ ap₂ (λ (a b : List Bool). a ++ b) (sym (exact_is n bs)) (ap (λ (r : List Bool). r ++ rest) back_is ∙ sym (exact_is m cs)) ∙ joined_some n m bs cs some
+    f ∙ sym (exact_is (n + m) vs)
+    ∙ ap (exact_flags (n + m)) (e ∙ ap (λ (r : List Bool). r ++ cs) (sym (exact_is n bs)))
+    ∙ exact_front n m (exact_flags n bs) cs (exact_length n bs) ∙ joined_some n m bs cs some
 
 pub drop_set : (bs : List Bool) (i : ℕ) (b : Bool) → i < length bs → b ≡ get_or bs i b → all_by (λ (x : Bool). x) (drop i bs) ≡ (b && all_by (λ (x : Bool). x) (drop (i + 1) bs))
 drop_set bs i b lt is = rw (drop_more bs i b lt, ← is) refl

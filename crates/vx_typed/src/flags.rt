@@ -87,7 +87,7 @@ impl Flags {
         };
         let mut flags = self.into_vec(alloc, total)?;
         flags.resize(rows, true)?;
-        flags.extend_from_slice(&others[..others.len().min(more)])?;
+        flags.extend_from_slice(others)?;
         flags.resize(total, true)?;
         Flags::new(alloc, flags)
     }
