@@ -162,6 +162,8 @@ impl AnyLeaves {
     ) -> Result<Result<AnyLeaves, AnyLeaves>, AllocError>
         ensures { IfOk result (λ r. MatchResult r (λ c. leaf_cells c ≡ leaf_cells self ++ leaf_cells others.now) (λ c. leaf_cells c ≡ leaf_cells self)) }
     {
-        append_each!(self, alloc, others, Bool, U8, U16, U32, U64, I8, I16, I32, I64)
+        append_each!(
+            self, alloc, others, Bool, U8, U16, U32, U64, I8, I16, I32, I64
+        )
     }
 }

@@ -9,7 +9,7 @@ ghost use Rattle.vx_typed.specs.Typed.{typed_cells};
 ghost use Rattle.vx_column_codec.specs.Rows.{flagged_at};
 
 use std::alloc::{AllocError, Global};
-use vx_byte_reader::{flag_at, u16_at, u32_at, u64_at, u8_at};
+use vx_byte_reader::{flag_at, u8_at, u16_at, u32_at, u64_at};
 use vx_cell_codec::CellError;
 use vx_typed::Leaf;
 

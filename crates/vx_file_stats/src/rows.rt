@@ -197,11 +197,7 @@ fn next_total(
 }
 
 /// The sum of the rows; nothing where it doesn't fit its type.
-fn batch_sum(
-    alloc: Global,
-    column: &DType,
-    rows: &[Lent<'_>],
-) -> Result<Option<i128>, AllocError>
+fn batch_sum(alloc: Global, column: &DType, rows: &[Lent<'_>]) -> Result<Option<i128>, AllocError>
     requires held { IsTrue (has_state (ty column.now) sum) }
     requires fit { IsTrue (all_by (fits (ty column.now)) (map lent_cell rows.now)) }
     ensures { IfOk result (λ s. s ≡ number_in (sum_value (sum_of_type (ty column.now)) (exact_sum (map value (map lent_cell rows.now))))) }

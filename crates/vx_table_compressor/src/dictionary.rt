@@ -77,11 +77,7 @@ struct Coded {
 
 /// Looks at the cells until more than so many are distinct.
 #[tactic(auto, using(crate::proofs::CodeSteps::code_rules))]
-fn codes_and_values(
-    alloc: Global,
-    column: &Column,
-    most: u64,
-) -> Result<Option<Coded>, AllocError>
+fn codes_and_values(alloc: Global, column: &Column, most: u64) -> Result<Option<Coded>, AllocError>
     requires { IsTrue (all_by is_plain (column_cells column.now)) }
     ensures { IfOk result (λ r. MatchOption r (most < length (distinct (column_cells column.now)))
         (λ c. (length c.values ≤ most) × (c.values ≡ distinct (column_cells column.now)) × (map tree c.codes.items ≡ map offset_cell (codes_of (distinct (column_cells column.now)) (column_cells column.now))))) }
