@@ -37,6 +37,7 @@ impl AggregateFn {
         ids::BLOOM,
     ];
 
+    /// The id by which layouts name it; one of `IDS`.
     pub fn id(&self) -> &'static str
         ensures { result.now ≡ aggregate_id (aggregate self.now) }
     {

@@ -37,6 +37,7 @@ impl Stat {
         }
     }
 
+    /// The name that texts show.
     pub fn name(self) -> &'static str
         ensures { result.now ≡ stat_name self }
     {

@@ -1,11 +1,15 @@
-//! Times of filters and of the hash that they store. Without an argument a short run that prints no times; with a
-//! count, as 1000000, the nanoseconds of an insert and of a lookup, by vectors and in the plain form, and of a hash.
-//! Each is the least of many short rounds, so that other work on the machine tells little.
+//! Times of filters, of the hash that they store, and of a write by columns. Without an argument a short run that prints no
+//! times; with a count, as 1000000, the nanoseconds of an insert and of a lookup, by vectors and in the plain form, and of a
+//! hash, each the least of many short rounds, so that other work on the machine tells little; and the microseconds of a write
+//! of eight columns of 100,000 rows, by one machine and column by column.
 #![tactic(auto)]
 
 ghost use Rattle.std.specs.Prelude.{◌+◌, ◌≤◌, length};
 
+mod columns;
+
 use anyhow::Result;
+use columns::{Size, print_columns};
 use std::env;
 use std::time::Instant;
 use vx_bloom::{BloomOptions, BloomPartial};
@@ -175,5 +179,11 @@ fn main(rt: HostRuntime) -> Result<()> {
     print_hash(&rt, &buffer, 64, rounds, timed.is_some())?;
     print_hash(&rt, &buffer, 1024, rounds, timed.is_some())?;
     print_hash(&rt, &buffer, 65536, rounds, timed.is_some())?;
+    let (batches, rows, times) = if timed.is_some() {
+        (10, 10_000, 5)
+    } else {
+        (2, 4, 1)
+    };
+    print_columns(&rt, Size { batches, rows }, times, timed.is_some())?;
     Ok(())
 }

@@ -78,6 +78,7 @@ pub struct BloomOptions {
 }
 
 impl BloomOptions {
+    /// A filter of so many blocks of 32 bytes.
     pub fn new(blocks: NonZeroU32, hash_fn: HashFn) -> BloomOptions
         ensures blocks { blocks_in result ≡ non_zero_u32_get blocks }
         ensures hash_fn { hash_fn_in result ≡ hash_fn }

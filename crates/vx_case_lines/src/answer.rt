@@ -11,6 +11,7 @@ pub struct Answer {
 }
 
 impl Answer {
+    /// An answer without a text.
     pub fn new(alloc: Global) -> Answer {
         Answer {
             text: String::new(alloc),
@@ -18,6 +19,7 @@ impl Answer {
         }
     }
 
+    /// The text behind what stands.
     pub fn push_str(&mut self, text: &str) {
         if self.text.push_str(text).is_err() {
             self.is_short = true;
@@ -64,6 +66,7 @@ impl Answer {
         self.push_str("\n");
     }
 
+    /// All of the other behind what stands.
     pub fn push_all(&mut self, other: Answer) {
         self.push_str(other.text.as_str());
         if other.is_short {

@@ -1,7 +1,8 @@
 //! What the cases have in common: lines, their parts, bytes as hex text, and the text of answers.
 #![tactic(auto)]
 
-ghost use Rattle.std.specs.Prelude.{◌≡◌, Ok, IfOk};
+ghost use Rattle.std.specs.Prelude.{◌≡◌, ◌==◌, Ok, IfOk};
+ghost use Rattle.std.specs.List.{before_first, after_first};
 ghost use Rattle.hex.specs.Hex.{decode_of};
 
 mod answer;
@@ -16,8 +17,14 @@ pub fn is_case(line: &str) -> bool {
 }
 
 /// The text before the first space, and the text behind it.
-pub fn cut(text: &str) -> (&str, &str) {
-    text.split_once(' ').unwrap_or((text, ""))
+pub fn cut(text: &str) -> (&str, &str)
+    ensures before { result.0.now ≡ before_first (λ b. b == 32) text.now }
+    ensures behind { result.1.now ≡ after_first (λ b. b == 32) text.now }
+{
+    match text.split_once(' ') {
+        Some((before, behind)) => (before, behind),
+        None => (text, ""),
+    }
 }
 
 /// The first part, and the parts behind it; nothing behind where it is one part alone.

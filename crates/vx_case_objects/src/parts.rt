@@ -8,11 +8,13 @@ use vx_chunk_json::read_type;
 use vx_model::DType;
 use vx_strategy_json::read_aggregate;
 
+/// The type at the object's key.
 pub fn dtype_in(alloc: Global, object: &Value, key: &str) -> anyhow::Result<DType> {
     let value = object.get(key).context("no type")?;
     Ok(read_type(alloc, value)?)
 }
 
+/// The list at the object's key.
 pub fn list_in<'a>(object: &'a Value, key: &str) -> anyhow::Result<&'a Vec<Value>> {
     let value = object.get(key).context("no list")?;
     value.as_array().context("no list")

@@ -24,6 +24,7 @@ pub fn push_cells(answer: &mut Answer, cells: &[Cell]) {
     }
 }
 
+/// The value, as a reader sees it.
 pub fn push_value(answer: &mut Answer, value: &Value) {
     match value {
         Value::Null => answer.push_str("null"),

@@ -4,6 +4,7 @@ use anyhow::bail;
 use std::alloc::Global;
 use vx_aggregate::Stat;
 
+/// The statistic of this name.
 pub fn stat_of(name: &str) -> anyhow::Result<Stat> {
     for stat in Stat::ALL {
         if stat.name() == name {

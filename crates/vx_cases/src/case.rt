@@ -1,12 +1,11 @@
 //! A line of the input as a case.
 
 ghost use Rattle.std.specs.Prelude.{◌≡◌, ◌==◌, ◌<◌, true, false, Ok, IfOk};
-ghost use Rattle.std.specs.List.{before_first, after_first};
 ghost use Rattle.hex.specs.Hex.{decode_of};
 
 use anyhow::{Result, bail, ensure};
 use std::alloc::{AllocError, Global};
-use vx_case_lines::bytes_of;
+use vx_case_lines::{bytes_of, cut};
 
 /// What the program is run on.
 #[derive(Drop)]
@@ -61,17 +60,6 @@ impl Options {
             bail!("no option {word}");
         }
         Ok(true)
-    }
-}
-
-/// The text before the first space, and the text behind it.
-pub(crate) fn cut(text: &str) -> (&str, &str)
-    ensures before { result.0.now ≡ before_first (λ b. b == 32) text.now }
-    ensures behind { result.1.now ≡ after_first (λ b. b == 32) text.now }
-{
-    match text.split_once(' ') {
-        Some((before, behind)) => (before, behind),
-        None => (text, ""),
     }
 }
 

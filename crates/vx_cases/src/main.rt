@@ -26,13 +26,13 @@ mod case;
 mod kind;
 
 use anyhow::{Context, Result};
-use case::{Case, cut, parse};
+use case::{Case, parse};
 use kind::Kind;
 use std::alloc::Global;
 use std::io::{self, BufRead, BufReader, BufWriter, Write};
 use std::sync::Wait;
 use std::thread::Threads;
-use vx_case_lines::is_case;
+use vx_case_lines::{cut, is_case};
 use vx_gate::NoGate;
 use vx_run::{ByteInput, ByteOutput, Status};
 use vx_run_columns::top;

@@ -75,6 +75,7 @@ impl Chunk {
         }
     }
 
+    /// How its rows are held; the encoding of its segment.
     pub fn encoding(&self) -> EncodingId
         ensures { result ≡ encoding_of self.now }
     {
@@ -96,6 +97,7 @@ impl Chunk {
         matches!(&self.node, Node::Plain { .. } | Node::Constant { .. })
     }
 
+    /// Whether it is a list of chunks, one after the other.
     pub fn is_chunked(&self) -> bool
         ensures { result ≡ is_chunked self.now }
     {

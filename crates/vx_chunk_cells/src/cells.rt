@@ -6,6 +6,7 @@ ghost use Rattle.vx_model.specs.TreeView.{tree};
 use std::alloc::{AllocError, Global};
 use vx_model::Cell;
 
+/// Copies of the cells, texts and bytes with them.
 #[tactic(auto, using(crate::proofs::Steps::push_rules))]
 pub fn copy_cells(alloc: Global, cells: &[Cell]) -> Result<Vec<Cell>, AllocError>
     ensures { IfOk result (λ v. map tree v.items ≡ map tree cells.now) }
@@ -15,6 +16,7 @@ pub fn copy_cells(alloc: Global, cells: &[Cell]) -> Result<Vec<Cell>, AllocError
     Ok(copies)
 }
 
+/// Copies of the cells, behind what stands.
 #[tactic(auto, using(crate::proofs::Steps::push_rules))]
 pub fn push_cells(cells: &[Cell], out: &mut Vec<Cell>) -> Result<(), AllocError>
     ensures { OnOk result (map tree out.new.items ≡ map tree out.old.items ++ map tree cells.now) }
@@ -25,6 +27,7 @@ pub fn push_cells(cells: &[Cell], out: &mut Vec<Cell>) -> Result<(), AllocError>
     Ok(())
 }
 
+/// So many copies of the cell, behind what stands.
 #[tactic(auto, using(crate::proofs::Steps::push_rules))]
 pub fn push_copies(cell: &Cell, count: u64, out: &mut Vec<Cell>) -> Result<(), AllocError>
     ensures { OnOk result (map tree out.new.items ≡ map tree out.old.items ++ replicate count (tree cell.now)) }

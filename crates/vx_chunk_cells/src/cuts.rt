@@ -69,6 +69,7 @@ pub fn push_counted(base: u64, offsets: &[u64], out: &mut Vec<u64>) -> Result<()
     Ok(())
 }
 
+/// So many times the offset: rows without an element.
 #[tactic(auto, using(crate::proofs::Steps::push_rules))]
 pub fn push_same_offset(offset: u64, count: u64, out: &mut Vec<u64>) -> Result<(), AllocError>
     ensures { OnOk result (out.new.items ≡ out.old.items ++ replicate count offset) }

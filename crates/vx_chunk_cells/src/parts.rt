@@ -25,6 +25,7 @@ pub fn flag_of(cell: &Cell) -> bool
     }
 }
 
+/// A flag a cell: whether it is valid.
 #[tactic(auto, using(crate::proofs::PartSteps::part_rules))]
 pub fn push_flags(cells: &[Cell], out: &mut Vec<bool>) -> Result<(), AllocError>
     ensures { OnOk result (out.new.items ≡ out.old.items ++ map is_valid (map tree cells.now)) }
@@ -46,6 +47,7 @@ pub fn push_row_flags(valid: &[bool], rows: u64, out: &mut Vec<bool>) -> Result<
     Ok(())
 }
 
+/// The flag for so many rows.
 #[tactic(auto, using(crate::proofs::PartSteps::part_rules))]
 pub fn push_same_flag(valid: bool, rows: u64, out: &mut Vec<bool>) -> Result<(), AllocError>
     ensures { OnOk result (out.new.items ≡ out.old.items ++ replicate rows valid) }

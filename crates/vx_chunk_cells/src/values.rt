@@ -7,6 +7,7 @@ ghost use Rattle.vx_model.specs.TreeView.{tree, val};
 use std::alloc::AllocError;
 use vx_model::{Cell, Value};
 
+/// The value of the cell: null where the cell is, or where its flag is false. Its text or bytes move.
 #[cycle(values)]
 #[tactic(auto, using(crate::proofs::ValueSteps::value_rules))]
 pub fn into_value(cell: Cell) -> Result<Value, AllocError>
@@ -33,6 +34,7 @@ pub fn into_value(cell: Cell) -> Result<Value, AllocError>
     }
 }
 
+/// The values of the cells, in order.
 #[cycle(values)]
 #[tactic(auto, using(crate::proofs::ValueSteps::value_rules))]
 pub fn into_values(cells: Vec<Cell>) -> Result<Vec<Value>, AllocError>

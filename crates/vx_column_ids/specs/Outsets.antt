@@ -1,6 +1,6 @@
 -- Where the machines of a struct's columns begin.
 use Rattle.std.specs.Prelude.{◌≡◌, ℕ, zero, suc, ◌+◌, ◌^◌, ◌<◌, List, [], ◌∷◌, ◌++◌}
-use Rattle.vx_path.specs.Path.{Eof, inside}
+use Rattle.vx_path.specs.Path.{Eof}
 use Rattle.vx_machine_ids.specs.Stock.{Stock, all_stock, end_stock}
 use Rattle.vx_named_tasks.specs.Names.{Outset, handed, column_outset}
 use Rattle.vx_column_ids.specs.declared.part.ColumnPart.{ColumnPart}
@@ -15,10 +15,6 @@ abbrev pub outset_of : ColumnPart → Outset
 outset_of p = record { names = handed p.ids.items; eof = p.eof }
 
 -- ---- a column's own machine
-
--- behind its batches, [1 + c, 0]
-abbrev pub column_eof : ℕ → Eof
-column_eof c = inside (record { stem = []; last = 1 + c })
 
 -- so many places on
 abbrev pub further : Eof → ℕ → Eof

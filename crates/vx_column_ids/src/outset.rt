@@ -1,12 +1,12 @@
 //! Where a column's own machine begins.
 
 ghost use Rattle.std.specs.Prelude.{◌≡◌, ◌+◌, ◌<◌, ◌^◌, IfOk, IfErr, OnOk};
-ghost use Rattle.vx_path.specs.Path.{inside};
+ghost use Rattle.vx_path.specs.Path.{inside, column_eof};
 ghost use Rattle.vx_sequence.specs.Universe.{root as only_root};
 ghost use Rattle.vx_tasks.specs.Runs.{first_batch};
 ghost use Rattle.vx_machine_ids.specs.Stock.{both, end_stock, ok_stock};
 ghost use Rattle.vx_machine_ids.specs.Balance.{Owned, Moved};
-ghost use Rattle.vx_column_ids.specs.Outsets.{column_eof, further};
+ghost use Rattle.vx_column_ids.specs.Outsets.{further};
 
 use crate::ids::{give_up_id, give_up_pointer, take_below, take_id};
 use vx_sequence::{SequenceError, SequencePointer, Universe};

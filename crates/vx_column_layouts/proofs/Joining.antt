@@ -9,7 +9,8 @@ use Rattle.vx_path.specs.declared.owned.Path.{Path}
 use Rattle.vx_layout_spec.specs.LayoutTree.{LayoutData, renamed, struct_layout}
 use Rattle.vx_layout_spec.specs.Refusal.{child_count}
 use Rattle.vx_layout_tree.specs.LayoutView.{layout_data}
-use Rattle.vx_layout_tree.specs.Made.{Made, make_struct, struct_children}
+use Rattle.vx_layout_shape.specs.Shape.{struct_children}
+use Rattle.vx_layout_tree.specs.Made.{Made, make_struct}
 use Rattle.vx_layout_tree.specs.declared.layout.Layout.{Layout}
 use Rattle.vx_plan.specs.PlanData.{Plan}
 use Rattle.vx_order_answer.specs.declared.receipt.Receipt.{Receipt}

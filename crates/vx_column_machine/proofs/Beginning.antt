@@ -3,7 +3,7 @@ use Rattle.std.proofs.Common.{◌≡◌, ◌^◌, ◌∙◌, ℕ, Bool, false, L
 use Rattle.std.proofs.lemmas.Bool.{true≢false}
 use Rattle.vx_model.specs.Ty.{Ty}
 use Rattle.vx_model.specs.ChunkData.{ChunkData}
-use Rattle.vx_path.specs.Path.{Eof}
+use Rattle.vx_path.specs.Path.{Eof, column_eof}
 use Rattle.vx_sequence.specs.Universe.{Active, only, root as only_root}
 use Rattle.vx_order.specs.Outlet.{Outlet, own, shared}
 use Rattle.vx_tasks.specs.Runs.{first_batch}
@@ -12,7 +12,6 @@ use Rattle.vx_plan.specs.Statements.{StartFaultStands}
 use Rattle.vx_write_answer.specs.declared.error.WriteError.{WriteError}
 use Rattle.vx_write_answer.specs.declared.error.WriteError.TheVariants.{CompressFault}
 use Rattle.vx_write_answer.specs.Causes.{is_compress_fault}
-use Rattle.vx_moved_plans.specs.Moved.{column_eof}
 use Rattle.vx_machine_ids.specs.Stock.{both, end_stock}
 use Rattle.vx_machine_ids.specs.Balance.{Owned, Exact, Moved}
 use Rattle.vx_machine_ids.proofs.MoveLaws.{owned_now}

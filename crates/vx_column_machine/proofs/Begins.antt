@@ -2,10 +2,9 @@
 use Rattle.std.proofs.Common.{◌≡◌, ◌+◌, ◌∷◌, ℕ, zero, suc, true, false, List, sym, subst, inl, inr, arith, []}
 use Rattle.std.proofs.lemmas.Bool.Decides.{nat_tests}
 use Rattle.vx_path.specs.Lists.{In}
-use Rattle.vx_path.specs.Path.{path_lt, meets, raised}
+use Rattle.vx_path.specs.Path.{path_lt, meets, raised, column_eof}
 use Rattle.vx_named_tasks.specs.Names.{onward, paths_from, CanBegin}
 use Rattle.vx_named_tasks.proofs.NamedLaws.{root_begins}
-use Rattle.vx_moved_plans.specs.Moved.{column_eof}
 use Rattle.vx_column_machine.specs.Course.{outset_of}
 
 in_batches : (i n : ℕ) (p : List ℕ) → In p (paths_from (onward (record { stem = 0 ∷ []; last = i })) n) → (j : ℕ) × (p ≡ 0 ∷ j ∷ [])

@@ -7,7 +7,7 @@ use Rattle.vx_tasks.specs.Runs.{first_batch}
 use Rattle.vx_plan.specs.PlanData.{Pair, Plan}
 use Rattle.vx_plan.specs.Number.{path_of, sorted}
 use Rattle.vx_plan.specs.Valid.{Fit}
-use Rattle.vx_moved_plans.specs.Moved.{column_eof}
+use Rattle.vx_path.specs.Path.{column_eof}
 use Rattle.vx_machine_turns.specs.Source.{stream_plan}
 use Rattle.vx_machine_state.specs.Acts.{layouts_in}
 use Rattle.vx_machine_view.specs.Machine.{Machine, is_finished}

@@ -12,7 +12,8 @@ use Rattle.vx_order.specs.Outlet.{Outlet, own}
 use Rattle.vx_plan.specs.PlanData.{Pair}
 use Rattle.vx_plan.specs.Number.{sorted}
 use Rattle.vx_write_answer.specs.declared.step.Step.{Step}
-use Rattle.vx_moved_plans.specs.Moved.{column_eof, at_column}
+use Rattle.vx_moved_plans.specs.Moved.{at_column}
+use Rattle.vx_path.specs.Path.{column_eof}
 use Rattle.vx_machine_turns.specs.Source.{stream_plan}
 use Rattle.vx_machine_steps.specs.Runs.{picks_after}
 use Rattle.vx_machine_promises.specs.Write.{Write, Future, Open, Answer, unasked, came, over, taken_by, heard_by}

@@ -4,7 +4,7 @@ use Rattle.std.proofs.lemmas.Bool.{true≢false}
 use Rattle.vx_model.specs.Ty.{Ty}
 use Rattle.vx_model.specs.ChunkData.{ChunkData, piece_type}
 use Rattle.vx_path.specs.Lists.{In}
-use Rattle.vx_path.specs.Path.{Eof}
+use Rattle.vx_path.specs.Path.{Eof, column_eof}
 use Rattle.vx_path.proofs.Sort.{length-sort_by}
 use Rattle.vx_tasks.specs.Run.{Note, nth, first_pick}
 use Rattle.vx_tasks.specs.Runs.{first_batch, noted}
@@ -16,7 +16,6 @@ use Rattle.vx_plan.specs.Valid.{OfSchema, Has}
 use Rattle.vx_plan.specs.Valid as valid
 use Rattle.vx_write_answer.specs.declared.error.WriteError.{WriteError}
 use Rattle.vx_write_answer.specs.declared.error.WriteError.TheVariants.{SourceFault, SinkFault, CompressFault, BatchType, NotStruct, DuplicateField, ManyChunks, EmptyList, ZoneCut, ForbiddenAggregate, ForbiddenEncoding, TooLarge, OutOfMemory, Stopped}
-use Rattle.vx_moved_plans.specs.Moved.{column_eof}
 use Rattle.vx_named_tasks.specs.Names.{onward}
 use Rattle.vx_machine_turns.specs.Planned.{StartFaultsAgree}
 use Rattle.vx_machine_turns.specs.Starts.{start_fault as form_fault}

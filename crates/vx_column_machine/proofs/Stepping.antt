@@ -16,7 +16,8 @@ use Rattle.vx_write_answer.specs.declared.step.Step.{Step}
 use Rattle.vx_write_answer.specs.declared.error.WriteError.{WriteError}
 use Rattle.vx_write_answer.specs.declared.error.WriteError.TheVariants.{SourceFault, SinkFault}
 use Rattle.vx_desk.specs.DeskView.{segments_in}
-use Rattle.vx_moved_plans.specs.Moved.{column_eof, at_column}
+use Rattle.vx_moved_plans.specs.Moved.{at_column}
+use Rattle.vx_path.specs.Path.{column_eof}
 use Rattle.vx_machine_ids.specs.Balance.{Exact}
 use Rattle.vx_machine_view.specs.Machine.{is_finished, machine_ids}
 use Rattle.vx_machine_runs.specs.Courses.{CourseIsReady, CourseIsFront, CourseGoesOn, CourseHasCause, CourseMisfitIsRead}

@@ -8,7 +8,8 @@ use Rattle.vx_plan.specs.PlanData.{Setting, Pair, Plan}
 use Rattle.vx_plan.specs.SourcePlan.{start_fault}
 use Rattle.vx_plan.specs.Valid.{OfSchema}
 use Rattle.vx_column_plan.specs.Columns.{Column}
-use Rattle.vx_moved_plans.specs.Moved.{column_eof, at_column}
+use Rattle.vx_moved_plans.specs.Moved.{at_column}
+use Rattle.vx_path.specs.Path.{column_eof}
 use Rattle.vx_machine_turns.specs.Source.{stream_plan}
 use Rattle.vx_machine_promises.specs.Write.{Write}
 use Rattle.vx_machine_state.specs.Images.{Careful}

@@ -2,14 +2,14 @@
 use Rattle.std.specs.Prelude.{◌≡◌, ℕ, Bool, List, slice_get, Some}
 use Rattle.vx_model.specs.Ty.{Tys}
 use Rattle.vx_model.specs.ChunkData.{ChunkData}
-use Rattle.vx_path.specs.Path.{root_eof}
+use Rattle.vx_path.specs.Path.{root_eof, column_eof}
 use Rattle.vx_rules.specs.Flushes.{chunk_pieces}
 use Rattle.vx_rules.specs.Columns.{struct_splits}
 use Rattle.vx_react.specs.Statements.{column_at}
 use Rattle.vx_plan.specs.PlanData.{Setting, Plan}
 use Rattle.vx_plan.specs.SourcePlan.{plan, batch_items}
 use Rattle.vx_column_plan.specs.Columns.{Column, batch_plans}
-use Rattle.vx_moved_plans.specs.Moved.{IsMoved, IsMovedAlike, into_column, column_eof, at_column}
+use Rattle.vx_moved_plans.specs.Moved.{IsMoved, IsMovedAlike, into_column, at_column}
 
 -- the chunks of column k of these batches
 abbrev pub column_chunks : ℕ → Tys → Bool → List ChunkData → List ChunkData

@@ -15,6 +15,7 @@ impl StatsSet {
     ghost use Rattle.std.specs.Prelude.{◌≡◌};
     ghost use Rattle.vx_file_stats.specs.Precisions.{precision, set_data, stat_in};
 
+    /// What is known of the statistic.
     pub fn get(&self, stat: Stat) -> &Precision
         ensures { precision result.now ≡ stat_in (set_data self.now) stat }
     {

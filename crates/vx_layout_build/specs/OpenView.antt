@@ -8,7 +8,7 @@ use Rattle.vx_metadata.specs.Values.{are_in_order}
 use Rattle.vx_layout_tree.specs.KindView.{headed}
 use Rattle.vx_layout_tree.specs.SpecView.{specs_of}
 use Rattle.vx_layout_tree.specs.ZonedView.{no_columns}
-use Rattle.vx_layout_tree.specs.Made.{validity_count}
+use Rattle.vx_layout_shape.specs.Shape.{validity_count}
 use Rattle.vx_layout_spec.specs.Refusal.{Refusal}
 use Rattle.vx_session.specs.Made.{Made, ◌>>=◌, ChildData, child_at, standing_at, has_children, has_rows}
 use Rattle.vx_session.specs.Kinds.{element_type, validity_type}

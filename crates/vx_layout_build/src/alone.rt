@@ -16,9 +16,8 @@ use crate::checks::{
 };
 use bytes::Bytes;
 use std::alloc::Global;
-use vx_layout_tree::{
-    FlatLayout, KindParts, Layout, LayoutError, LayoutParts, struct_children, total_rows,
-};
+use vx_layout_shape::struct_children;
+use vx_layout_tree::{FlatLayout, KindParts, Layout, LayoutError, LayoutParts, total_rows};
 use vx_model::{ArrayContext, Blob, SegmentId};
 use vx_session::LayoutBuildContext;
 

@@ -9,7 +9,7 @@ ghost use Rattle.vx_session.specs.Views.{context as context_of};
 ghost use Rattle.vx_session.specs.Kinds.{build_list as list_built, element_type as type_of_elements, build_dict as dict_built, build_stats as stats_built, build_zoned as zoned_built, build_zones as zones_built};
 ghost use Rattle.vx_layout_tree.specs.declared.error.LayoutError.TheVariants.{OutOfMemory};
 ghost use Rattle.vx_layout_tree.specs.KidsView.{layout_kids};
-ghost use Rattle.vx_layout_tree.specs.Made.{validity_count};
+ghost use Rattle.vx_layout_shape.specs.Shape.{validity_count};
 ghost use Rattle.vx_layout_build.specs.OpenView.{Opens, head_of, pair_kids, list_kids, column_kids, column_made, one_alone, all_built, wanted_depths};
 ghost use Rattle.vx_layout_build.specs.PartsView.{parts_of, one_depth, children_depth};
 ghost use Rattle.vx_layout_tree.specs.Views.{Fails};

@@ -31,7 +31,7 @@ pub trait LayoutFields {
 impl LayoutFields for StructLayout {
     ghost use Rattle.std.specs.Prelude.{IfOk};
     ghost use Rattle.vx_layout_spec.specs.LayoutTree.{layout_type};
-    ghost use Rattle.vx_layout_tree.specs.Children.{fields_of};
+    ghost use Rattle.vx_layout_shape.specs.Shape.{fields_of};
     ghost use Rattle.vx_layout_tree.specs.Views.{Gives};
     ghost use Rattle.vx_layout_fields.specs.Matching.{matching};
     ghost use Rattle.vx_layout_fields.specs.Numbers.{AreNumbers};

@@ -8,7 +8,8 @@ use Rattle.vx_layout_spec.specs.LayoutTree.{Kind, flat_kind, chunked_kind, struc
 use Rattle.vx_layout_slots.specs.declared.child_type.LayoutChildType.{LayoutChildType}
 use Rattle.vx_layout_slots.specs.declared.child_type.LayoutChildType.TheVariants.{Transparent, Auxiliary, Chunk, Field}
 use Rattle.vx_layout_tree.specs.declared.kind.LayoutKind.TheVariants as kinds
-use Rattle.vx_layout_tree.specs.Children.{fields_of, kind_name}
+use Rattle.vx_layout_tree.specs.Children.{kind_name}
+use Rattle.vx_layout_shape.specs.Shape.{fields_of}
 use Rattle.vx_layout_slots.specs.Slots.{slots, kind_slots, slot_place, slot_type, below, bracketed, field_type, kind_place, kind_type, child_offset}
 use Rattle.vx_layout_slots.specs.SlotTypes.{types_from, kind_row, chunk_row}
 use Rattle.vx_layout_slots.specs.SlotWalk.{row_of_slot}

@@ -3,7 +3,7 @@ use Rattle.std.specs.Prelude.{ℕ, zero, suc, ◌+◌, ◌-◌, ◌==◌, Bool, 
 use Rattle.vx_model.specs.Words.{total_by}
 use Rattle.vx_model.specs.Ty.{Ty, Named, nullable}
 use Rattle.vx_layout_spec.specs.LayoutTree.{Kind, flat_kind, chunked_kind, struct_kind, list_kind, dict_kind, zoned_kind, unread_zoned_kind, stats_kind, foreign_kind, refused_kind, LayoutData, layout, lays_in, row_count}
-use Rattle.vx_layout_tree.specs.Children.{fields_of}
+use Rattle.vx_layout_shape.specs.Shape.{fields_of}
 use Rattle.vx_layout_slots.specs.declared.child_type.LayoutChildType.{LayoutChildType}
 use Rattle.vx_layout_slots.specs.declared.child_type.LayoutChildType.TheVariants.{Transparent, Auxiliary, Chunk, Field}
 

@@ -4,7 +4,7 @@ ghost use Rattle.std.specs.Prelude.{◌≡◌, ◌≤◌, length, take, Some, If
 ghost use Rattle.vx_model.specs.Ty.{nullable};
 ghost use Rattle.vx_model.specs.TyView.{ty};
 ghost use Rattle.vx_layout_slots.specs.declared.child_type.LayoutChildType.TheVariants.{Auxiliary, Transparent};
-ghost use Rattle.vx_layout_tree.specs.Children.{fields_of};
+ghost use Rattle.vx_layout_shape.specs.Shape.{fields_of};
 ghost use Rattle.vx_layout_slots.specs.Slots.{slots, slot_place, slot_type, below as below_count, bracketed, struct_place as place_in_struct, list_place as place_in_list, chunk_type as type_of_chunk, field_type as type_of_field, struct_type as type_in_struct, list_type as type_in_list, dict_type as type_in_dict, zoned_type as type_in_zoned, foreign_type as type_in_foreign};
 ghost use Rattle.vx_layout_tree.specs.KidsView.{chunks, layout_kids};
 ghost use Rattle.vx_layout_tree.specs.LayoutView.{layout_data};
@@ -13,7 +13,8 @@ ghost use Rattle.vx_model.specs.Words.{total_by};
 
 use crate::child_type::LayoutChildType;
 use std::alloc::{AllocError, Global};
-use vx_layout_tree::{KindRef, Layout, LayoutChildren, field_count, fields_in};
+use vx_layout_shape::{field_count, fields_in};
+use vx_layout_tree::{KindRef, Layout, LayoutChildren};
 use vx_model::{DType, Text};
 
 #[tactic(auto, using(crate::proofs::SlotSteps::kind_rules))]

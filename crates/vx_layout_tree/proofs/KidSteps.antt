@@ -23,9 +23,9 @@ use Rattle.vx_layout_tree.specs.declared.children.LayoutChildren.{LayoutChildren
 use Rattle.vx_layout_tree.specs.declared.children.LayoutChildren.TheVariants as children
 use Rattle.vx_layout_tree.specs.LayoutView.{layout_data}
 use Rattle.vx_layout_tree.specs.KidsView.{owned_kids, viewed_kids, layout_kids, chunks, fields}
-use Rattle.vx_layout_tree.specs.Children.{fields_of}
+use Rattle.vx_layout_shape.specs.Shape.{fields_of}
 use Rattle.vx_layout_tree.specs.Children as places
-use Rattle.vx_layout_tree.specs.Made.{struct_children}
+use Rattle.vx_layout_shape.specs.Shape.{struct_children}
 use Rattle.vx_layout_tree.specs.Views.{Fails}
 
 -- ---- how many, and their rows

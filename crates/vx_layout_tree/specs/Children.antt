@@ -21,13 +21,6 @@ kind_name (stats_kind zone_len stats) = kinds.LegacyStats
 kind_name (foreign_kind id metadata) = kinds.Foreign
 kind_name (refused_kind is_flat refusal) = kinds.Foreign
 
--- ---- fields
-
--- the fields of a struct
-abbrev pub fields_of : Ty → List Named
-fields_of (struct fs n) = fields_in fs
-fields_of t = []
-
 -- ---- rows of a child
 
 abbrev pub rows_at : List (LayoutData ℕ) → ℕ → ℕ

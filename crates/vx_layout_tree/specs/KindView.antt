@@ -17,7 +17,7 @@ use Rattle.vx_layout_tree.specs.declared.kind_ref.KindRef.TheVariants as refs
 use Rattle.vx_layout_tree.specs.FlatView.{flat_lay}
 use Rattle.vx_layout_tree.specs.KidsView.{chunks, fields, layout_kids}
 use Rattle.vx_layout_tree.specs.LayoutView.{layout_data, seen_layout}
-use Rattle.vx_layout_tree.specs.Made.{validity_count}
+use Rattle.vx_layout_shape.specs.Shape.{validity_count}
 use Rattle.vx_layout_tree.specs.SpecView.{specs_of}
 use Rattle.vx_layout_tree.specs.ZonedView.{no_columns}
 

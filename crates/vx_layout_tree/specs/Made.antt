@@ -1,15 +1,14 @@
 -- The layouts that constructors make of parts, and what they refuse first.
 use Rattle.std.specs.Prelude.{ℕ, ◌+◌, ◌-◌, ◌==◌, not, Bool, true, false, if◌then◌else◌, List, [], ◌∷◌, length, map, Option, Some, None, Result, Ok, Err}
-use Rattle.vx_model.specs.declared.ptype.PType.TheVariants.{U64}
 use Rattle.vx_model.specs.Words.{total_by}
-use Rattle.vx_model.specs.Ty.{Ty, primitive, nullable, is_list, is_struct, ty_eq}
+use Rattle.vx_model.specs.Ty.{Ty, is_list, is_struct, ty_eq}
 use Rattle.vx_layout_spec.specs.Refusal.{Refusal, child_count, child_type, other_rows, no_list, no_struct}
 use Rattle.vx_layout_spec.specs.LayoutTree.{LayoutData, layout, no_layouts, child, stats_kind, row_count, layout_type, chunked_layout, struct_layout, list_layout, dict_layout, zoned_layout}
 use Rattle.vx_aggregate_spec.specs.Aggregate.{Aggregate, spec}
 use Rattle.vx_aggregate.specs.declared.stat.Stat.{Stat}
 use Rattle.vx_aggregate.specs.Stats.{stat_number}
 use Rattle.vx_aggregate.specs.Tables.{stats_table, legacy_table}
-use Rattle.vx_layout_tree.specs.Children.{fields_of}
+use Rattle.vx_layout_shape.specs.Shape.{validity_count, struct_children, is_primitive, integer_type}
 
 abbrev pub Made : Type 0
 Made = Result (LayoutData ℕ) Refusal
@@ -17,29 +16,14 @@ Made = Result (LayoutData ℕ) Refusal
 abbrev pub refused : Refusal → Made
 refused why = Err why
 
--- 1 where the type is nullable: the validity
-abbrev pub validity_count : Ty → ℕ
-validity_count t = if nullable t then 1 else 0
-
 abbrev pub make_chunked : Ty → ℕ → List (LayoutData ℕ) → Made
 make_chunked t n ls = if total_by row_count ls == n then Ok (chunked_layout t n ls) else Err (other_rows (total_by row_count ls) n)
-
-abbrev pub struct_children : Ty → ℕ
-struct_children t = length (fields_of t) + validity_count t
 
 abbrev pub make_struct : Ty → ℕ → List (LayoutData ℕ) → Made
 make_struct t n ls =
     if is_struct t
     then (if length ls == struct_children t then Ok (struct_layout t n ls) else Err (child_count (length ls) (struct_children t)))
     else Err no_struct
-
-abbrev pub is_primitive : Ty → Bool
-is_primitive (primitive p n) = true
-is_primitive t = false
-
--- what offsets and codes must be: the type that is told where they are no integers
-abbrev pub integer_type : Ty
-integer_type = primitive U64 false
 
 abbrev pub listed : Option (LayoutData ℕ) → List (LayoutData ℕ)
 listed None = []

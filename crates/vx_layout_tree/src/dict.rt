@@ -1,8 +1,9 @@
 use crate::error::LayoutError;
 use crate::layout::Layout;
-use crate::shape::{integer_type, is_primitive, other_type};
+use crate::shape::other_type;
 use std::alloc::Global;
 use std::marker::Model;
+use vx_layout_shape::{integer_type, is_primitive};
 use vx_model::{DType, SegmentId};
 
 /// Values, and a code a row.

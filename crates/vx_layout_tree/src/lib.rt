@@ -37,7 +37,7 @@ pub use own::{
     ELEMENTS_CHILD_INDEX, NUM_CHILDREN_NON_NULLABLE, OFFSETS_CHILD_INDEX, VALIDITY_CHILD_INDEX,
 };
 pub use parts::{KindParts, LayoutHead, LayoutParts};
-pub use shape::{field_count, fields_in, integers_in, struct_children};
+pub use shape::integers_in;
 pub use stats::LegacyStatsLayout;
 pub use structs::StructLayout;
 pub use total::total_rows;

@@ -4,9 +4,10 @@ ghost use Rattle.vx_layout_tree.specs.Made.{listed};
 
 use crate::error::LayoutError;
 use crate::layout::Layout;
-use crate::shape::{integer_type, is_primitive, other_type, validity_count};
+use crate::shape::other_type;
 use std::alloc::{AllocError, Global};
 use std::marker::Model;
+use vx_layout_shape::{integer_type, is_primitive, validity_count};
 use vx_model::{DType, SegmentId};
 
 /// Elements, offsets, and a validity where the type is nullable.
@@ -35,7 +36,7 @@ impl Model for ListLayout {
 
     ghost use Rattle.std.specs.Prelude.{◌≡◌, ◌+◌, length};
     ghost use Rattle.vx_model.specs.TyView.{ty};
-    ghost use Rattle.vx_layout_tree.specs.Made.{validity_count};
+    ghost use Rattle.vx_layout_shape.specs.Shape.{validity_count};
 
     ghost invariant = { λ c. length c.children.items ≡ 2 + validity_count (ty c.dtype) };
 

@@ -8,7 +8,8 @@ ghost use Rattle.vx_metadata.specs.Kept.{integers_of, second_type};
 ghost use Rattle.vx_aggregate_spec.specs.Aggregate.{spec};
 ghost use Rattle.vx_session.specs.Kinds.{element_type};
 ghost use Rattle.vx_layout_spec.specs.LayoutTree.{children_of, layout_kind, layout_type};
-ghost use Rattle.vx_layout_tree.specs.Children.{fields_of, rows_at};
+ghost use Rattle.vx_layout_tree.specs.Children.{rows_at};
+ghost use Rattle.vx_layout_shape.specs.Shape.{fields_of};
 ghost use Rattle.vx_layout_tree.specs.Copies.{with_chunks};
 ghost use Rattle.vx_layout_tree.specs.FlatView.{flat_lay};
 ghost use Rattle.vx_layout_tree.specs.LayoutView.{layout_data};
@@ -24,13 +25,14 @@ use crate::foreign::ForeignLayout;
 use crate::layout::Layout;
 use crate::list::ListLayout;
 use crate::rebuilt::same_head;
-use crate::shape::{fields_in, integers_in};
+use crate::shape::integers_in;
 use crate::stats::LegacyStatsLayout;
 use crate::structs::StructLayout;
 use crate::total::total_rows;
 use crate::zoned::{ZoneTable, ZonedLayout};
 use std::alloc::{AllocError, Global};
 use vx_aggregate::{AggregateFn, Stat};
+use vx_layout_shape::fields_in;
 use vx_model::{DType, PType, StructField};
 
 /// The slots of a list.

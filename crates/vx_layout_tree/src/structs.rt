@@ -1,8 +1,8 @@
 use crate::children::LayoutChildren;
 use crate::error::LayoutError;
 use crate::layout::Layout;
-use crate::shape::struct_children;
 use std::marker::Model;
+use vx_layout_shape::struct_children;
 use vx_model::{DType, SegmentId};
 
 /// A validity where the type is nullable, then a layout a field.

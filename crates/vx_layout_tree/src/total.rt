@@ -7,6 +7,7 @@ ghost use Rattle.vx_layout_tree.specs.KidsView.{layout_kids};
 
 use crate::children::LayoutChildren;
 
+/// The rows of all children together, by their own counts. Takes time by their number.
 #[tactic(auto, using(crate::proofs::KidSteps::sum_rules))]
 pub fn total_rows(children: &LayoutChildren) -> u128
     ensures { result ≡ total_by kid_rows (layout_kids children.now) }

@@ -22,7 +22,8 @@ use Rattle.vx_layout_tree.specs.declared.children.LayoutChildren.{LayoutChildren
 use Rattle.vx_layout_tree.specs.declared.children.LayoutChildren.TheVariants as children
 use Rattle.vx_layout_tree.specs.LayoutView.{layout_data, number, seen_layout}
 use Rattle.vx_layout_tree.specs.KidsView.{layout_kids, chunks}
-use Rattle.vx_layout_tree.specs.Made.{make_chunked, make_struct, struct_children, validity_count}
+use Rattle.vx_layout_tree.specs.Made.{make_chunked, make_struct}
+use Rattle.vx_layout_shape.specs.Shape.{struct_children, validity_count}
 use Rattle.vx_layout_tree.specs.SpecView.{specs_of}
 use Rattle.vx_layout_tree.specs.Views.{Fails}
 use Rattle.vx_layout_tree.proofs.KidSteps.{chunk_sum}

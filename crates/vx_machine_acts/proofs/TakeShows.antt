@@ -11,7 +11,7 @@ use Rattle.vx_hash.specs.XxHash3.{xxhash3_64}
 use Rattle.vx_rules.specs.Columns.{list_columns}
 use Rattle.vx_split.specs.ListState.{behind}
 use Rattle.vx_layout_spec.specs.LayoutTree.{gathered, struct_layout}
-use Rattle.vx_layout_tree.specs.Made.{struct_children}
+use Rattle.vx_layout_shape.specs.Shape.{struct_children}
 use Rattle.vx_sink.specs.declared.context.LayoutWriterContext.{LayoutWriterContext}
 use Rattle.vx_sink.specs.ContextView.{allowed_in}
 use Rattle.vx_zone_spec.specs.ZoneTable.{Filled, kept_columns}

@@ -82,6 +82,7 @@ pub fn hand_over<O: Order>(
     given
 }
 
+/// Tells each that no chunk comes any more.
 pub fn close_all(kids: &mut Vec<Task>)
     ensures stock { tasks_stock kids.new.items ≡ tasks_stock kids.old.items }
     ensures reserved { tasks_reserved kids.new.items ≡ tasks_reserved kids.old.items }

@@ -34,6 +34,7 @@ pub fn give_up_probe<O: Order>(order: &mut O, probe: DictProbe)
     give_up_item(order, item);
 }
 
+/// Gives up the newest chunk's id and the runs' pointer.
 pub fn give_up_runs<O: Order>(order: &mut O, runs: DictRuns)
     requires { Owned (O.active order.old) (runs_stock runs) }
     ensures moved { Moved (O.active order.old) (O.active order.new) (runs_stock runs) none }
@@ -52,6 +53,7 @@ pub fn give_up_runs<O: Order>(order: &mut O, runs: DictRuns)
     give_up_so_far(order, runs);
 }
 
+/// Gives up its pointer.
 pub fn give_up_so_far<O: Order>(order: &mut O, runs: RunsSoFar)
     requires { Owned (O.active order.old) (end_stock runs.pointer) }
     ensures moved { Moved (O.active order.old) (O.active order.new) (end_stock runs.pointer) none }
@@ -96,6 +98,7 @@ pub(crate) fn give_up_run<O: Order>(order: &mut O, run: RunStart)
     give_up_id(order, values);
 }
 
+/// Releases all that is reserved, the latest first.
 pub fn release_all(ctx: &mut LayoutWriterContext, mut reserved: VecDeque<BufferedBytesReservation>)
     requires { sum_of reserved.items ≤ counted ctx.old }
     ensures tracked { Paid ctx.old ctx.new (sum_of reserved.items) 0 }
@@ -129,6 +132,7 @@ pub fn give_up_grouped<O: Order>(ctx: &mut LayoutWriterContext, order: &mut O, n
     give_up_newest(order, newest);
 }
 
+/// Gives up the chunk's id, where there is a chunk.
 pub fn give_up_newest<O: Order>(order: &mut O, newest: Option<Item>)
     requires { Owned (O.active order.old) (some_stock item_stock newest) }
     ensures moved { Moved (O.active order.old) (O.active order.new) (some_stock item_stock newest) none }

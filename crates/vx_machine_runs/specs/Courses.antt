@@ -157,7 +157,7 @@ pub record CausedThere (g : Write) (o : Outset) (notes : List Note) (x : Point) 
   pub comes : Comes g (begin_at g o taken f) notes k (tracked_at g x + w.raises)
   pub within : tracked_at g x + w.raises ≤ g.tracker + (planned_at g o taken f).reserved
 
--- those taken by then
+-- A step that is refused, or counts past a number, has its cause in the plan of the batches taken by then and of whatever follows.
 abbrev pub CourseHasCause : Type 0
 CourseHasCause = (g : Write) (stream eof : Eof) (notes : List Note) (x : Point) (told : Answer) (number k : ℕ) (w : WholeStep) (f : Future) → HasComeTo g stream eof notes x → ChosenAt g x told number k w
     → Open (heard_by x.heard told) f → CanBegin (outset_from stream eof) (length (taken_by x.taken told ++ f.later))
@@ -180,8 +180,8 @@ abbrev pub CountedBelow : ℕ → (g : Write) (x : Point) (ns : List Note) (y : 
 CountedBelow most g x [] y c = Unit {0}
 CountedBelow most g x (n ∷ ns) y c = AllBelow most (c.1.step.numbers ++ c.1.step.indices) × CountedBelow most g c.0 ns y c.2
 
--- Where it has finished, and all that was counted from the start on is below a number, so is each number of the plan of the batches that
--- were taken.
+-- Where it has finished, and all is below a number that its pointers have at the start and that was counted from there on, so is each
+-- number of the plan of the batches that were taken.
 abbrev pub CourseIsCounted : Type 0
 CourseIsCounted = (most : ℕ) (g : Write) (stream eof : Eof) (notes : List Note) (x : Point) (h : HasComeTo g stream eof notes x) → CanBegin (outset_from stream eof) (length x.taken)
     → is_finished x.machine ≡ true → stream.last < most → eof.last < most → AllBelow most (first_indices (form_of g) g.mark eof)

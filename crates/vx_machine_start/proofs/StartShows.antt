@@ -13,7 +13,7 @@ use Rattle.vx_chunk_cells.specs.Parts.{element_type, struct_fields}
 use Rattle.vx_rules.specs.Columns.{offset_type}
 use Rattle.vx_split.specs.ListState.{state_at}
 use Rattle.vx_table_dispatch.specs.Settled.{passes_on}
-use Rattle.vx_layout_tree.specs.Children.{fields_of}
+use Rattle.vx_layout_shape.specs.Shape.{fields_of}
 use Rattle.vx_strategy_spec.specs.StrategyData.{StrategyData, Grouping, grouped}
 use Rattle.vx_strategy_spec.specs.Walk.{chosen, duplicate, field_nodes, walk, walk_named}
 use Rattle.vx_strategy_spec.specs.Dispatch.{override, given_or}

@@ -5,7 +5,7 @@ use Rattle.vx_path.specs.Lists.{In}
 use Rattle.vx_path.specs.Path.{Eof, under, inside}
 use Rattle.vx_rules.specs.Columns.{offset_type}
 use Rattle.vx_chunk_cells.specs.Parts.{element_type, struct_fields}
-use Rattle.vx_layout_tree.specs.Children.{fields_of}
+use Rattle.vx_layout_shape.specs.Shape.{fields_of}
 use Rattle.vx_strategy_spec.specs.StrategyData.{StrategyData}
 use Rattle.vx_strategy_spec.specs.Dispatch.{override, given_or}
 use Rattle.vx_strategy.specs.FieldWays.{field_ways}

@@ -19,7 +19,7 @@ ghost use Rattle.vx_machine_node.specs.View.{form_at};
 use crate::start::{next_name, start_under, waiting};
 use std::alloc::Global;
 use std::sync::Arc;
-use vx_layout_tree::fields_in;
+use vx_layout_shape::fields_in;
 use vx_machine_fresh::element_copy;
 use vx_machine_ids::give_up_pointer;
 use vx_machine_node::{ColumnsNode, ListsNode, Local};

@@ -12,7 +12,7 @@ use Rattle.vx_model.specs.TyView.{ty}
 use Rattle.vx_sequence.specs.Universe.{Active}
 use Rattle.vx_layout_tree.specs.declared.layout.Layout.{Layout}
 use Rattle.vx_layout_tree.specs.LayoutView.{layout_data}
-use Rattle.vx_layout_tree.specs.Made.{struct_children}
+use Rattle.vx_layout_shape.specs.Shape.{struct_children}
 use Rattle.vx_machine_ids.specs.Stock.{one}
 use Rattle.vx_regroup.specs.declared.regroup.Regroup.{Regroup}
 use Rattle.vx_regroup.specs.declared.regroup.Regroup.TheVariants.{Repartition, Buffered, Collect}

@@ -6,7 +6,7 @@ use Rattle.std.specs.FinMap as fin
 use Rattle.vx_path.specs.Path.{is_least}
 use Rattle.vx_model.specs.TyView.{ty}
 use Rattle.vx_model.specs.Words.{all_by, total_by}
-use Rattle.vx_layout_tree.specs.Made.{struct_children}
+use Rattle.vx_layout_shape.specs.Shape.{struct_children}
 use Rattle.vx_machine_state.specs.Acts.{column_count}
 use Rattle.vx_sequence.specs.Universe.{Active}
 use Rattle.vx_machine_ids.specs.Stock.{one}

@@ -14,7 +14,7 @@ ghost use Rattle.vx_machine_task.specs.View.{desk_of, task_row, row};
 ghost use Rattle.vx_machine_task.specs.Ready.{made_of as has_done, is_done as is_done_task, is_over as takes_no_more, kids_of, all_made as have_layouts, room_at, can_join as joins, columns_fit as are_columns, lists_fit as are_parts, may_due as may_do, may_take as may_begin, may_now, ready_in, ready_among, counted};
 
 use crate::task::{Head, Task};
-use vx_layout_tree::struct_children;
+use vx_layout_shape::struct_children;
 use vx_machine_node::{ColumnsNode, Due, ListsNode, Local, Shape};
 use vx_order::Order;
 

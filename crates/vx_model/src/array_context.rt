@@ -50,6 +50,7 @@ impl ArrayContext {
         }
     }
 
+    /// The encodings, in order; their places are the indices that array trees have.
     pub fn ids(&self) -> &[EncodingId]
         ensures ids { result.now ≡ self.now }
         ensures distinct { first_repeat self.now ≡ None }

@@ -28,6 +28,7 @@ pub struct StructFields {
     pub fields: Vec<StructField>,
 }
 
+/// A field: its name, and the type of its values.
 #[derive(Debug, Drop)]
 #[cycle(dtype)]
 pub struct StructField {
@@ -44,6 +45,7 @@ pub struct ExtDType {
 }
 
 impl DType {
+    /// Whether rows of the type can be null; an extension's are as its storage's.
     pub fn is_nullable(&self) -> bool
         ensures { result ≡ nullable (ty self.now) }
     {

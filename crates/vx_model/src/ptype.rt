@@ -67,6 +67,7 @@ impl PType {
         }
     }
 
+    /// The type of this name, `u8` to `i64`.
     pub fn from_name(name: &str) -> Option<PType>
         ensures found { IfSome result (λ p. ptype_name p ≡ name.now) }
         ensures none { IfNone result ((p : PType) → ptype_name p ≢ name.now) }
@@ -105,6 +106,7 @@ pub enum Nullability {
 }
 
 impl Nullability {
+    /// Whether it has one.
     pub fn is_nullable(self) -> bool
         ensures { result ≡ is_nullable self }
     {

@@ -3,12 +3,12 @@ use Rattle.std.proofs.Common.{◌≡◌, ℕ, zero, suc, ◌+◌, false, List, [
 use Rattle.std.proofs.lemmas.Bool.{true≢false}
 use Rattle.vx_model.specs.Ty.{Ty, Tys, no_fields, field}
 use Rattle.vx_model.specs.ChunkData.{ChunkData}
-use Rattle.vx_path.specs.Path.{root_eof}
+use Rattle.vx_path.specs.Path.{root_eof, column_eof}
 use Rattle.vx_strategy_spec.specs.StrategyData.{StrategyData}
 use Rattle.vx_plan.specs.PlanData.{Setting, Item, Node, Plan}
 use Rattle.vx_plan.specs.SourcePlan.{plan, batch_items}
 use Rattle.vx_plan.proofs.Relate.{Fields, induct}
-use Rattle.vx_moved_plans.specs.Moved.{Moving, moved_items, AllGoAlong, EofGoes, IsMoved, into_column, column_eof, at_column, column_items}
+use Rattle.vx_moved_plans.specs.Moved.{Moving, moved_items, AllGoAlong, EofGoes, IsMoved, into_column, at_column, column_items}
 use Rattle.vx_moved_plans.specs.Statements.{PlansMove, ColumnsMove, ColumnsMoveAlike}
 use Rattle.vx_moved_plans.proofs.Lists.{near_twice}
 use Rattle.vx_moved_plans.proofs.Nodes.{Moves, NodesMove, flat_moves, chunked_moves, grouped_moves, compressed_moves, dict_moves, zoned_moves, not_struct_moves, struct_moves, list_moves}

@@ -1,7 +1,7 @@
 -- Plans at other paths: what is written at a path is written where that is moved.
 use Rattle.std.specs.Prelude.{◌≡◌, ◌⊎◌, ℕ, zero, suc, ◌+◌, List, [], ◌∷◌, ◌++◌}
 use Rattle.vx_model.specs.ChunkData.{ChunkData}
-use Rattle.vx_path.specs.Path.{Eof, raised, inside}
+use Rattle.vx_path.specs.Path.{Eof, raised}
 use Rattle.vx_layout_spec.specs.LayoutTree.{renamed}
 use Rattle.vx_plan.specs.PlanData.{Pair, Item, Plan, Fault, fault, Place, at_start, at_chunk, at_end}
 
@@ -73,10 +73,6 @@ into_column c [] = []
 into_column c (zero ∷ []) = 0 ∷ []
 into_column c (zero ∷ i ∷ p) = 0 ∷ i ∷ c ∷ p
 into_column c (suc k ∷ p) = (1 + c) ∷ k ∷ p
-
--- the eof path of column c, [1 + c, 0]
-abbrev pub column_eof : ℕ → Eof
-column_eof c = inside (record { stem = []; last = 1 + c })
 
 -- where it writes what its column c writes by itself from that eof path on: [0, i] goes to [0, i, c], and all behind stays
 abbrev pub at_column : ℕ → Moving

@@ -2,11 +2,11 @@
 use Rattle.std.specs.Prelude.{ℕ, Bool, List}
 use Rattle.vx_model.specs.Ty.{Ty}
 use Rattle.vx_model.specs.ChunkData.{ChunkData}
-use Rattle.vx_path.specs.Path.{Eof, root_eof}
+use Rattle.vx_path.specs.Path.{Eof, root_eof, column_eof}
 use Rattle.vx_strategy_spec.specs.StrategyData.{StrategyData}
 use Rattle.vx_plan.specs.PlanData.{Setting, Item}
 use Rattle.vx_plan.specs.SourcePlan.{plan, batch_items}
-use Rattle.vx_moved_plans.specs.Moved.{Moving, moved_items, AllGoAlong, EofGoes, IsMoved, IsMovedAlike, into_column, column_eof, at_column, column_items}
+use Rattle.vx_moved_plans.specs.Moved.{Moving, moved_items, AllGoAlong, EofGoes, IsMoved, IsMovedAlike, into_column, at_column, column_items}
 
 -- whatever moves the stream and the eof path, with all that goes on from them
 abbrev pub PlansMove : Type 0

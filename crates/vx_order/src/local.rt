@@ -20,6 +20,7 @@ pub struct LocalOrder<S> {
 impl<S: SegmentSink> LocalOrder<S> {
     ghost use Rattle.vx_order.specs.Local.{sink_of, universe_of};
 
+    /// The order over a universe's active ids. Segments go to this sink.
     pub fn new(sink: S, universe: Universe) -> LocalOrder<S>
         ensures sink { sink_of result ≡ sink }
         ensures universe { universe_of result ≡ universe }

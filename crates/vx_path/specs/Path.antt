@@ -58,6 +58,10 @@ eof_path e = under e.stem e.last
 abbrev pub inside : Eof → Eof
 inside e = record { stem = under e.stem e.last; last = 0 }
 
+-- the first eof path below the eof path of column c of the root's struct, [1 + c, 0]
+abbrev pub column_eof : ℕ → Eof
+column_eof c = inside (record { stem = []; last = 1 + c })
+
 -- the eof path e + 1
 abbrev pub next : Eof → Eof
 next e = record { stem = e.stem; last = e.last + 1 }

@@ -3,7 +3,7 @@ use Rattle.std.specs.Prelude.{ℕ, suc, Bool, true, false, List, [], ◌∷◌, 
 use Rattle.vx_model.specs.Ty.{Ty, Named}
 use Rattle.vx_model.specs.ValueData.{ValueData}
 use Rattle.vx_layout_spec.specs.LayoutTree.{Kind, zoned_kind, stats_kind, LayoutData, LayoutList, layout, no_layouts, child, layout_type}
-use Rattle.vx_layout_tree.specs.Children.{fields_of}
+use Rattle.vx_layout_shape.specs.Shape.{fields_of}
 use Rattle.vx_report.specs.RowText.{row_lines}
 
 -- a zone table of a layout: the zone length, and the layout of the table's rows

@@ -7,7 +7,7 @@ ghost use Rattle.vx_report.specs.TableView.{told_table, told_tables};
 
 use crate::row_text::push_rows;
 use std::alloc::{AllocError, Global};
-use vx_layout_tree::fields_in;
+use vx_layout_shape::fields_in;
 use vx_model::{DType, Value};
 
 /// A zone table that is read: its zone length, its type, and its rows.

@@ -109,6 +109,7 @@ impl LayoutWriterContext {
         self.marked
     }
 
+    /// The tracker of the bytes that are held back.
     pub fn buffered_bytes_tracker(&self) -> &BufferedBytesTracker
         ensures { result.now ≡ counted self.now }
     {

@@ -46,6 +46,7 @@ impl CellTable {
         }
     }
 
+    /// How many cells it has.
     pub fn len(&self) -> u64
         ensures { result ≡ length self.now }
     {
@@ -75,6 +76,7 @@ impl CellTable {
         Ok(())
     }
 
+    /// The cells, in the order in which they were pushed.
     pub fn as_slice(&self) -> &[Cell]
         ensures { map tree result.now ≡ self.now }
     {

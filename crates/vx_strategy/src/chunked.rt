@@ -16,6 +16,7 @@ impl ChunkedLayoutStrategy {
     ghost use Rattle.vx_strategy.specs.NodeViews.{chunked_way};
     ghost use Rattle.vx_strategy.specs.StrategyView.{strategy_data};
 
+    /// Each chunk is written by the child.
     pub fn new(alloc: Global, chunk_strategy: Strategy) -> Result<ChunkedLayoutStrategy, BuildError>
         ensures ok { IfOk result (λ s. chunked_way s ≡ chunked (strategy_data chunk_strategy)) }
         ensures memory { IfErr result (λ e. e ≡ BuildError.OutOfMemory) }
@@ -25,12 +26,14 @@ impl ChunkedLayoutStrategy {
         })
     }
 
+    /// What writes each chunk.
     pub fn child(&self) -> &ChildStrategy
         ensures { result.now ≡ self.now.child }
     {
         &self.child
     }
 
+    /// Takes no memory.
     pub fn into_strategy(self) -> Strategy
         ensures { strategy_data result ≡ chunked_way self }
     {

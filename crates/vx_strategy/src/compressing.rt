@@ -55,6 +55,7 @@ impl CompressingStrategy {
         })
     }
 
+    /// What writes the compressed chunks.
     pub fn child(&self) -> &ChildStrategy
         ensures { result.now ≡ self.now.child }
     {
@@ -75,6 +76,7 @@ impl CompressingStrategy {
         self.concurrency
     }
 
+    /// Takes no memory.
     pub fn into_strategy(self) -> Strategy
         ensures { strategy_data result ≡ compressed_way self }
     {

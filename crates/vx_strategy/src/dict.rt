@@ -51,12 +51,14 @@ impl DictStrategy {
         })
     }
 
+    /// What writes a run's codes.
     pub fn codes(&self) -> &ChildStrategy
         ensures { result.now ≡ self.now.codes }
     {
         &self.codes
     }
 
+    /// What writes a run's values.
     pub fn values(&self) -> &ChildStrategy
         ensures { result.now ≡ self.now.values }
     {
@@ -70,6 +72,7 @@ impl DictStrategy {
         &self.fallback
     }
 
+    /// How large a dictionary may become before its run ends.
     pub fn constraints(&self) -> DictLayoutConstraints
         ensures { result ≡ self.now.constraints }
     {
@@ -83,6 +86,7 @@ impl DictStrategy {
         self.probe
     }
 
+    /// Takes no memory.
     pub fn into_strategy(self) -> Strategy
         ensures { strategy_data result ≡ dict_way self }
     {

@@ -81,14 +81,3 @@ pub(crate) fn find(writers: &[FieldWriter], name: &FieldName) -> Option<usize>
     }
     None
 }
-
-/// The same writers, which share their strategies with these.
-pub(crate) fn copied(alloc: Global, writers: &[FieldWriter]) -> Result<Vec<FieldWriter>, AllocError>
-    ensures { IfOk result (λ copies. copies.items ≡ writers.now) }
-{
-    let mut copies = Vec::with_capacity(alloc, writers.len())?;
-    for writer in writers {
-        copies.push(writer.clone()?)?;
-    }
-    Ok(copies)
-}

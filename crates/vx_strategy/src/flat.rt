@@ -25,6 +25,7 @@ impl FlatLayoutStrategy {
         }
     }
 
+    /// Whether buffers are aligned by bytes of padding.
     pub fn with_include_padding(self, include_padding: bool) -> FlatLayoutStrategy
         ensures { flat_options result ≡ record (flat_options self) { padding = include_padding } }
     {
@@ -34,6 +35,7 @@ impl FlatLayoutStrategy {
         }
     }
 
+    /// Whether the array's tree stands in the layout's metadata.
     pub fn with_inline_array_node(self, inline_array_node: bool) -> FlatLayoutStrategy
         ensures { flat_options result ≡ record (flat_options self) { inline = inline_array_node } }
     {
@@ -43,6 +45,7 @@ impl FlatLayoutStrategy {
         }
     }
 
+    /// Takes no memory.
     pub fn into_strategy(self) -> Strategy
         ensures { strategy_data result ≡ flat (flat_options self) }
     {

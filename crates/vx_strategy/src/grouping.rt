@@ -44,6 +44,7 @@ impl RepartitionStrategy {
         }
     }
 
+    /// What writes the rows, grouped anew.
     pub fn child(&self) -> &ChildStrategy
         ensures { result.now ≡ self.now.child }
     {
@@ -63,6 +64,7 @@ impl RepartitionStrategy {
         }
     }
 
+    /// Takes no memory.
     pub fn into_strategy(self) -> Strategy
         ensures { strategy_data result ≡ repartition_way self }
     {
@@ -98,6 +100,7 @@ impl BufferedStrategy {
     ghost use Rattle.vx_strategy.specs.NodeViews.{buffered_way};
     ghost use Rattle.vx_strategy.specs.StrategyView.{strategy_data};
 
+    /// Chunks are held back until so many bytes are.
     pub fn new(
         alloc: Global,
         child: Strategy,
@@ -112,6 +115,7 @@ impl BufferedStrategy {
         })
     }
 
+    /// What writes the rows, grouped anew.
     pub fn child(&self) -> &ChildStrategy
         ensures { result.now ≡ self.now.child }
     {
@@ -125,6 +129,7 @@ impl BufferedStrategy {
         self.buffer_size
     }
 
+    /// Takes no memory.
     pub fn into_strategy(self) -> Strategy
         ensures { strategy_data result ≡ buffered_way self }
     {
@@ -159,6 +164,7 @@ impl CollectStrategy {
     ghost use Rattle.vx_strategy.specs.NodeViews.{collect_way};
     ghost use Rattle.vx_strategy.specs.StrategyView.{strategy_data};
 
+    /// All chunks become one.
     pub fn new(alloc: Global, child: Strategy) -> Result<CollectStrategy, BuildError>
         ensures ok { IfOk result (λ s. collect_way s ≡ grouped into_one (strategy_data child)) }
         ensures memory { IfErr result (λ e. e ≡ BuildError.OutOfMemory) }
@@ -168,12 +174,14 @@ impl CollectStrategy {
         })
     }
 
+    /// What writes the rows, grouped anew.
     pub fn child(&self) -> &ChildStrategy
         ensures { result.now ≡ self.now.child }
     {
         &self.child
     }
 
+    /// Takes no memory.
     pub fn into_strategy(self) -> Strategy
         ensures { strategy_data result ≡ collect_way self }
     {

@@ -42,6 +42,7 @@ impl ListLayoutStrategy {
         })
     }
 
+    /// This one writes the elements.
     pub fn with_elements(
         self,
         alloc: Global,
@@ -63,6 +64,7 @@ impl ListLayoutStrategy {
         })
     }
 
+    /// This one writes the offsets.
     pub fn with_offsets(
         self,
         alloc: Global,
@@ -84,6 +86,7 @@ impl ListLayoutStrategy {
         })
     }
 
+    /// This one writes the validity of nullable lists.
     pub fn with_validity(
         self,
         alloc: Global,
@@ -105,6 +108,7 @@ impl ListLayoutStrategy {
         })
     }
 
+    /// This one writes what is no list.
     pub fn with_fallback(
         self,
         alloc: Global,
@@ -126,18 +130,21 @@ impl ListLayoutStrategy {
         })
     }
 
+    /// What writes the elements.
     pub fn elements(&self) -> &ChildStrategy
         ensures { result.now ≡ self.now.elements }
     {
         &self.elements
     }
 
+    /// What writes the offsets.
     pub fn offsets(&self) -> &ChildStrategy
         ensures { result.now ≡ self.now.offsets }
     {
         &self.offsets
     }
 
+    /// What writes the validity of nullable lists.
     pub fn validity(&self) -> &ChildStrategy
         ensures { result.now ≡ self.now.validity }
     {
@@ -151,6 +158,7 @@ impl ListLayoutStrategy {
         &self.fallback
     }
 
+    /// Takes no memory.
     pub fn into_strategy(self) -> Strategy
         ensures { strategy_data result ≡ list_way self }
     {

@@ -157,18 +157,7 @@ impl Clone for Overrides {
 
     fn clone(&self) -> Result<Overrides, AllocError> {
         Ok(Overrides {
-            list: copied(*self.list.allocator(), &self.list)?,
+            list: Vec::from_clones(*self.list.allocator(), &self.list)?,
         })
     }
-}
-
-/// The same overrides, which share their strategies with these.
-fn copied(alloc: Global, list: &[PathWriter]) -> Result<Vec<PathWriter>, AllocError>
-    ensures { IfOk result (λ copies. copies.items ≡ list.now) }
-{
-    let mut copies = Vec::with_capacity(alloc, list.len())?;
-    for one in list {
-        copies.push(one.clone()?)?;
-    }
-    Ok(copies)
 }

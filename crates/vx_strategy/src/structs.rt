@@ -1,5 +1,5 @@
 use crate::child::ChildStrategy;
-use crate::field_writer::{FieldWriter, copied, find, put, put_all};
+use crate::field_writer::{FieldWriter, find, put, put_all};
 use crate::strategy::Strategy;
 use std::alloc::{AllocError, Global};
 use vx_model::FieldName;
@@ -23,6 +23,7 @@ impl StructStrategy {
     ghost use Rattle.vx_strategy.specs.PairWays.{named_way, with_writers};
     ghost use Rattle.vx_strategy.specs.StrategyView.{strategy_data};
 
+    /// Each field goes to the default, until a writer is given for its name.
     pub fn new(
         alloc: Global,
         validity: Strategy,
@@ -95,6 +96,7 @@ impl StructStrategy {
         }
     }
 
+    /// What writes the validity of nullable structs.
     pub fn validity(&self) -> &ChildStrategy
         ensures { result.now ≡ self.now.validity }
     {
@@ -119,6 +121,7 @@ impl StructStrategy {
         }
     }
 
+    /// Takes no memory.
     pub fn into_strategy(self) -> Strategy
         ensures { strategy_data result ≡ struct_way self }
     {
@@ -134,7 +137,7 @@ impl Clone for StructStrategy {
 
     fn clone(&self) -> Result<StructStrategy, AllocError> {
         let (validity, default) = self.validity.clone_with(&self.default)?;
-        let Ok(writers) = copied(*self.writers.allocator(), &self.writers) else {
+        let Ok(writers) = Vec::from_clones(*self.writers.allocator(), &self.writers) else {
             drop((validity, default));
             return Err(AllocError);
         };

@@ -145,6 +145,7 @@ impl TableStrategy {
         })
     }
 
+    /// This one writes the validity of nullable structs.
     pub fn with_validity_strategy(
         self,
         alloc: Global,
@@ -220,6 +221,7 @@ impl TableStrategy {
         }
     }
 
+    /// Takes no memory.
     pub fn into_strategy(self) -> Strategy
         ensures { strategy_data result ≡ table_way self }
     {

@@ -48,6 +48,7 @@ impl ZonedStrategy {
         }
     }
 
+    /// What writes the rows.
     pub fn child(&self) -> &ChildStrategy
         ensures { result.now ≡ self.now.child }
     {
@@ -86,6 +87,7 @@ impl ZonedStrategy {
         self.rule.concurrency
     }
 
+    /// Takes no memory.
     pub fn into_strategy(self) -> Strategy
         ensures { strategy_data result ≡ zoned_way self }
     {

@@ -75,6 +75,7 @@ impl Default for DictLayoutConstraints {
     }
 }
 
+/// Options of a dictionary: how large one may be.
 #[derive(Clone, Copy, Debug, PartialEq, Eq)]
 pub struct DictLayoutOptions {
     pub constraints: DictLayoutConstraints,

@@ -29,6 +29,7 @@ impl Flags {
         Flags { kept: None }
     }
 
+    /// A flag a row; the vector is moved.
     pub fn new(alloc: Global, flags: Vec<bool>) -> Result<Flags, AllocError>
         ensures { IfOk result (λ f. f ≡ flags.items) }
     {
@@ -36,6 +37,7 @@ impl Flags {
         Ok(Flags { kept: Some(kept) })
     }
 
+    /// The flags; none where all rows are valid.
     pub fn as_slice(&self) -> &[bool]
         ensures { result.now ≡ self.now }
     {

@@ -1,5 +1,6 @@
 //! Texts, or bytes.
 
+/// Whether rows of bytes are texts.
 #[derive(Clone, Copy)]
 pub enum StringKind {
     Utf8,

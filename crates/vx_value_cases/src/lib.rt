@@ -1,7 +1,8 @@
 //! Answers cases: what calls on filters and their hash, on paths, masks, aggregates and strategies give.
 //!
-//! A case is a line `NAME WORD GIVEN`, and its answer a line `NAME: ANSWER`. Parts of what is given stand between ` / `. A filter is given as its number of blocks and the words that
-//! are in it, and bytes are hex text (`-`: none). Types, aggregates and strategies are those of a job.
+//! A case is a line `NAME WORD GIVEN`, and its answer a line `NAME: ANSWER`. Parts of what is given stand between ` / `. A filter is
+//! given as its number of blocks and the words that are in it, and bytes are hex text (`-`: none). Types, aggregates and strategies
+//! are those of a job.
 //!
 //! | word | given | answer |
 //! |---|---|---|

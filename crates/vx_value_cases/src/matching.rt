@@ -5,9 +5,8 @@ use std::alloc::{AllocError, Global};
 use vx_case_lines::Answer;
 use vx_field_path::FieldMask;
 use vx_layout_fields::LayoutFields;
-use vx_layout_tree::{
-    ChunkedLayout, Layout, LayoutError, StructLayout, fields_in, layout_children,
-};
+use vx_layout_shape::fields_in;
+use vx_layout_tree::{ChunkedLayout, Layout, LayoutError, StructLayout, layout_children};
 use vx_model::DType;
 
 pub(crate) fn tell(alloc: Global, answer: &mut Answer, dtype: &DType, given: &str) {

@@ -21,7 +21,7 @@ pub fn column_count(strategy: &Strategy, dtype: &DType) -> Option<u64>
     }
 }
 
-#[tactic(auto, using(vx_layout_tree::proofs::Steps::field_rules))]
+#[tactic(auto, using(vx_layout_shape::proofs::Fields::field_rules))]
 fn columns_of(dtype: &DType) -> Option<u64>
     ensures { result ≡ columns_of (ty dtype.now) }
 {

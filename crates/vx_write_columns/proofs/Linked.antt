@@ -5,7 +5,7 @@ use Rattle.vx_named_tasks.specs.Names.{onward}
 use Rattle.vx_plan.specs.PlanData.{Item}
 use Rattle.vx_plan.specs.SourcePlan.{plan, batch_items}
 use Rattle.vx_machine_turns.specs.Source.{named_items, reaching}
-use Rattle.vx_moved_plans.specs.Moved.{column_eof}
+use Rattle.vx_path.specs.Path.{column_eof}
 use Rattle.vx_column_moves.specs.Moves.{own_plan_at}
 use Rattle.vx_column_machine.specs.Course.{Course, plan_of}
 

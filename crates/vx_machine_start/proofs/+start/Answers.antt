@@ -10,7 +10,7 @@ use Rattle.vx_model.specs.TyView.{ty, field_ty}
 use Rattle.vx_model.specs.declared.dtype.StructField.{StructField}
 use Rattle.vx_chunk.proofs.FlagSteps.{ty_flags}
 use Rattle.vx_chunk_cells.specs.Parts.{element_type}
-use Rattle.vx_layout_tree.specs.Children.{fields_of}
+use Rattle.vx_layout_shape.specs.Shape.{fields_of}
 use Rattle.vx_rules.specs.Columns.{offset_type}
 use Rattle.vx_split.specs.ListState.{state_at}
 use Rattle.vx_split.proofs.ListSteps.{ty_offsets}
