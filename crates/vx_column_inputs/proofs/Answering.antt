@@ -1,5 +1,5 @@
 -- Batches are read one after the other.
-use Rattle.std.proofs.Common.{◌≡◌, ℕ, ◌+◌, Bool, true, false, List, [], ◌∷◌, ◌++◌, length, Option, Some, None, append_assoc, inl, inr, refl, sym, ap, subst, ◌∙◌, arith}
+use Rattle.std.proofs.Common.{◌≡◌, ℕ, ◌+◌, Bool, true, false, List, [], ◌∷◌, ◌++◌, length, Option, Some, None, append_assoc, refl, sym, ap, subst, ◌∙◌, arith}
 use Rattle.std.specs.Prelude.{Ok, Err}
 use Rattle.std.proofs.lemmas.Bool.{true≢false}
 use Rattle.std.proofs.lemmas.List.{length_push}
@@ -9,8 +9,8 @@ use Rattle.vx_layout_spec.specs.Real.{Of}
 use Rattle.vx_chunk.specs.declared.node.Chunk.{Chunk}
 use Rattle.vx_fault.specs.Faults.{Called, FaultsTold}
 use Rattle.vx_fault.specs.Told.{before_told, NoneTold}
+use Rattle.vx_fault.proofs.Answering.{Answered, none_called, then_called, then_left, then_failed, ended}
 use Rattle.vx_plan.specs.Valid.{OfSchema, AllOf}
-use Rattle.vx_machine.proofs.RunCalls.{Answered, none_called, then_answered, ended, source_ends}
 use Rattle.vx_sink.specs.Source.{source_failed, GivesNext}
 use Rattle.vx_sink.specs.declared.source.SourceError.{SourceError}
 use Rattle.vx_sink.specs.declared.source.SourceError.TheVariants as source
@@ -57,7 +57,7 @@ module _ {S : Type 0} (faults : S → ℕ) (may must : S → ℕ → Type 0) (to
 
   module _ (a b c : S) (taken : List ChunkData) (h : HasGiven faults may must to_come t a b taken) where
     answered_more : (x : ChunkData) → Called (faults b) (faults c) (may b) (may c) (must b) (must c) false → Answered faults may must a c (length (taken ++ (x ∷ [])))
-    answered_more x called = then_answered faults may must a b c (length taken) h.answered 1 (length (taken ++ (x ∷ []))) (length_push taken x) (inr refl) called
+    answered_more x called = subst (λ z. Answered faults may must a c z) (sym (length_push taken x)) (then_called faults may must a b c (length taken) h.answered called)
 
     came_more : (x : ChunkData) → to_come b ≡ before_told (x ∷ []) (to_come c) → to_come a ≡ before_told (taken ++ (x ∷ [])) (to_come c)
     came_more x e = h.came ∙ ap (before_told taken) e ∙ told_more taken x (to_come c)
@@ -72,7 +72,7 @@ module _ {S : Type 0} (faults : S → ℕ) (may must : S → ℕ → Type 0) (to
     all_given k = record {
       came = h.came ∙ ap (before_told taken) (sym k.1);
       ended = λ e. k.2;
-      asked = ended faults may must a c c (length taken + 1) (length taken + 1) refl refl (then_answered faults may must a b c (length taken) h.answered 1 (length taken + 1) refl (inr refl) k.0);
+      asked = ended faults may must a c c (length taken + 1) (length taken + 1) refl refl (then_called faults may must a b c (length taken) h.answered k.0);
     }
 
     -- behind these batches, none of which failed
@@ -91,7 +91,7 @@ module _ {S : Type 0} (faults : S → ℕ) (may must : S → ℕ → Type 0) (to
         came = h.came ∙ ap (before_told taken) (sym k.1);
         ended = λ n. absurd (true≢false (sym n));
         asked = let s : length taken ≡ length taken + 0 = omega arith in
-            subst (λ z. FaultsTold (faults a) (faults c) (may a) (must a) z true) s (source_ends faults may must a b c (length taken) h.answered true SourceFault (refl, k.0));
+            subst (λ z. FaultsTold (faults a) (faults c) (may a) (must a) z true) s (then_failed faults may must a b c (length taken) h.answered k.0);
       };
       cause = tt;
     }
@@ -114,7 +114,7 @@ module _ {S : Type 0} (faults : S → ℕ) (may must : S → ℕ → Type 0) (to
         → ReadStops t (faults a) (faults c) (may a) (must a) (to_come a) (to_come c) e
     next_stops SourceFault k = failing k
     next_stops (BatchType x) k = misfit x k
-    next_stops OutOfMemory k = record { taken = taken; told = told_so (source_ends faults may must a b c (length taken) h.answered true OutOfMemory (inr k.0)) k.1; cause = tt }
+    next_stops OutOfMemory k = record { taken = taken; told = told_so (then_left faults may must a b c (length taken) h.answered k.0) k.1; cause = tt }
     next_stops SinkFault k = absurd k
     next_stops CompressFault k = absurd k
     next_stops NotStruct k = absurd k

@@ -16,7 +16,7 @@ use Rattle.vx_plan.specs.Valid.{OfSchema, AllOf}
 use Rattle.vx_column_plan.specs.Columns.{Column, field_columns, columns_by}
 use Rattle.vx_column_ways.specs.Ways.{columns_in}
 use Rattle.vx_column_batches.specs.Beside.{columns_of as split_of, width_of, chunks_beside}
-use Rattle.vx_write.specs.ColumnCount.{columns_of}
+use Rattle.vx_column_ways.specs.ColumnCount.{columns_of}
 use Rattle.vx_column_inputs.specs.Prepared.{FitColumns}
 use Rattle.vx_column_inputs.proofs.Widths.{none_some, width_counted}
 

@@ -19,7 +19,7 @@ use Rattle.vx_react.specs.Statements.{columns_after, column_at}
 use Rattle.vx_plan.specs.SourcePlan.{batch_items}
 use Rattle.vx_plan.specs.Valid.{OfSchema}
 use Rattle.vx_strategy_spec.specs.StrategyData.{StrategyData, StrategyList, structured}
-use Rattle.vx_write.specs.ColumnCount.{columns_of}
+use Rattle.vx_column_ways.specs.ColumnCount.{columns_of}
 use Rattle.vx_sink.specs.declared.list_source.ListSource.{ListSource}
 use Rattle.vx_column_plan.specs.Columns.{Column}
 use Rattle.vx_column_moves.specs.Moves.{column_chunks}

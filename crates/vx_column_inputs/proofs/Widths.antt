@@ -6,7 +6,7 @@ use Rattle.vx_strategy_spec.specs.StrategyData.{StrategyData, StrategyList, stru
 use Rattle.vx_column_plan.specs.Columns.{Column, field_columns, columns_by}
 use Rattle.vx_column_ways.specs.Ways.{columns_in}
 use Rattle.vx_column_batches.specs.Beside.{width_of}
-use Rattle.vx_write.specs.ColumnCount.{columns_of}
+use Rattle.vx_column_ways.specs.ColumnCount.{columns_of}
 
 fields_counted : (d : StrategyData) (ws : StrategyList) (m : Bool) (fs : Tys) → length (field_columns d ws m fs) ≡ length (fields_in fs)
 fields_counted d ws m no_fields = refl

@@ -6,14 +6,12 @@ use Rattle.vx_path.specs.Lists.{In}
 use Rattle.vx_layout_spec.specs.Real.{Of}
 use Rattle.vx_chunk.specs.declared.node.Chunk.{Chunk}
 use Rattle.vx_fault.specs.Faults.{Called, FaultsTold}
-use Rattle.vx_fault.specs.Told.{before_told, NoneTold}
+use Rattle.vx_fault.specs.Told.{before_told, NoneTold, answers_in, TookLast}
 use Rattle.vx_plan.specs.PlanData.{row_totals}
 use Rattle.vx_plan.specs.SourcePlan.{batch_items}
 use Rattle.vx_write_answer.specs.declared.error.WriteError.{WriteError}
 use Rattle.vx_write_answer.specs.declared.error.WriteError.TheVariants.{SourceFault, BatchType, TooLarge, OutOfMemory}
 use Rattle.vx_write_answer.specs.Causes.{is_source_fault}
-use Rattle.vx_write.specs.Traced.{answers_in}
-use Rattle.vx_write.specs.Written.{TookLast}
 
 -- the source's answers: so many batches, and its end where it was heard
 pub record SourceTold (faults faults_now : ℕ) (may must : ℕ → Type 0) (to_come to_come_now : Option (List ChunkData)) (taken : List ChunkData) (heard failed : Bool) : Type 0 where

@@ -11,7 +11,7 @@ ghost use Rattle.vx_plan.specs.Valid.{OfSchema, AllOf};
 ghost use Rattle.vx_sink.specs.ContextView.{is_marked, allowed_in, listed, counted};
 ghost use Rattle.vx_moved_plans.specs.Moved.{at_column};
 ghost use Rattle.vx_column_ways.specs.Ways.{column_of, columns_in};
-ghost use Rattle.vx_write.specs.ColumnCount.{columns_of};
+ghost use Rattle.vx_column_ways.specs.ColumnCount.{columns_of};
 ghost use Rattle.vx_column_inputs.specs.Reading.{SourceTold};
 ghost use Rattle.vx_column_inputs.specs.Prepared.{IsInput, AreInputs, FitColumns, AreOwnInputs, ArePrepared, NamesStop, SplitStops, PrepareStops};
 

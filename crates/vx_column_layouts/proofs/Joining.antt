@@ -17,7 +17,7 @@ use Rattle.vx_order_answer.specs.declared.receipt.Receipt.{Receipt}
 use Rattle.vx_moved_plans.specs.Moved.{at_column}
 use Rattle.vx_column_plan.specs.Shared.{number_by}
 use Rattle.vx_column_machine.specs.Causes.{IsDone}
-use Rattle.vx_write.specs.ColumnCount.{columns_of}
+use Rattle.vx_column_ways.specs.ColumnCount.{columns_of}
 use Rattle.vx_write_answer.specs.declared.error.WriteError.{WriteError}
 use Rattle.vx_write_answer.specs.declared.error.WriteError.TheVariants.{SourceFault, SinkFault, CompressFault, BatchType, NotStruct, DuplicateField, ManyChunks, EmptyList, ZoneCut, ForbiddenAggregate, ForbiddenEncoding, TooLarge, OutOfMemory, Stopped}
 use Rattle.vx_column_layouts.specs.Numbers.{ColumnOutcome, AllDone, StandsIn, AllStandIn, AllOk, HasOwn, IsOwn, IsFirstOwn, IsLaid, is_stop, layouts_by}

@@ -18,7 +18,7 @@ use Rattle.vx_plan.specs.Number.{path_of, sorted}
 use Rattle.vx_order_answer.specs.declared.receipt.Receipt.{Receipt}
 use Rattle.vx_seats.specs.History.{paths as written_paths}
 use Rattle.vx_moved_plans.specs.Moved.{Moving, moved_pairs, at_column}
-use Rattle.vx_machine.specs.Progress.{numbers_from}
+use Rattle.vx_column_machine.specs.Progress.{numbers_from}
 use Rattle.vx_column_plan.specs.Shared.{number_by}
 use Rattle.vx_column_machine.specs.Course.{paths_at}
 use Rattle.vx_column_machine.specs.Causes.{IsDone}

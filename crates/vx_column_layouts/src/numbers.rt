@@ -10,7 +10,7 @@ ghost use Rattle.vx_seats.specs.History.{ascends, paths as all_paths};
 ghost use Rattle.vx_moved_plans.specs.Moved.{at_column};
 ghost use Rattle.vx_column_plan.specs.Shared.{number_by};
 ghost use Rattle.vx_column_machine.specs.Causes.{IsDone};
-ghost use Rattle.vx_write.specs.ColumnCount.{columns_of};
+ghost use Rattle.vx_column_ways.specs.ColumnCount.{columns_of};
 ghost use Rattle.vx_column_layouts.specs.Numbers.{AllDone, StandsIn, AllStandIn, AllIn, AllOk, HasOwn, IsFirstOwn, IsLaid, is_stop, layouts_by};
 
 use std::alloc::{AllocError, Global};

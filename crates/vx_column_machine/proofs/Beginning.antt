@@ -23,7 +23,7 @@ use Rattle.vx_machine_runs.specs.Numbers.{AllBelow}
 use Rattle.vx_machine_runs.specs.Courses.{start_point, CourseStartHasCause}
 use Rattle.vx_machine_node.specs.Context.{Allowed}
 use Rattle.vx_machine_node.specs.View.{form_at}
-use Rattle.vx_machine_start.specs.Starting.{FormRefused, Counted}
+use Rattle.vx_machine.specs.TaskStarting.{FormRefused, Counted}
 use Rattle.vx_machine.specs.Progress.{HasCome, Begins}
 use Rattle.vx_machine.proofs.HeldViews.{exact_then}
 use Rattle.vx_column_machine.specs.Course.{Course, write_of, start_of, StandsAt}

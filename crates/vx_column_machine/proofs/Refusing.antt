@@ -36,7 +36,7 @@ use Rattle.vx_machine_runs.proofs.Sounding.{past_is_caused}
 use Rattle.vx_machine_node.specs.Outcome.{Past, Appending, Refused}
 use Rattle.vx_machine_node.specs.View.{form_at}
 use Rattle.vx_machine_node.specs.Context.{Allowed}
-use Rattle.vx_machine_start.specs.Starting.{FormRefused}
+use Rattle.vx_machine.specs.TaskStarting.{FormRefused}
 use Rattle.vx_machine.specs.Source.{ReadsNone, SourceMay, NoNumber}
 use Rattle.vx_machine.specs.SourceActs.{AsksAt, TellsRefused}
 use Rattle.vx_machine.specs.Steps.{StepRefused}

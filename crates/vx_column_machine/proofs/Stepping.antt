@@ -23,7 +23,7 @@ use Rattle.vx_machine_view.specs.Machine.{is_finished, machine_ids}
 use Rattle.vx_machine_runs.specs.Courses.{CourseIsReady, CourseIsFront, CourseGoesOn, CourseHasCause, CourseMisfitIsRead}
 use Rattle.vx_least_writes.specs.LeastWrites.{WritesLeast, StepsWriteLeast}
 use Rattle.vx_machine_node.specs.Context.{setting_of}
-use Rattle.vx_machine_task.proofs.ReservedSteps.{task_view}
+use Rattle.vx_machine.proofs.ReservedSteps.{task_view}
 use Rattle.vx_machine.specs.declared.machine.Machine.{Machine}
 use Rattle.vx_machine.specs.View.{machine_of}
 use Rattle.vx_machine.specs.Whole.{machine_stock, machine_reserved, machine_ready}

@@ -4,7 +4,7 @@ use Rattle.vx_seats.specs.Turns.{NeverFails}
 use Rattle.vx_write_answer.specs.declared.step.Step.{Step}
 use Rattle.vx_write_answer.specs.declared.error.WriteError.{WriteError}
 use Rattle.vx_write_answer.specs.declared.error.WriteError.TheVariants.{SourceFault, SinkFault, CompressFault, BatchType, NotStruct, DuplicateField, ManyChunks, EmptyList, ZoneCut, ForbiddenAggregate, ForbiddenEncoding, TooLarge, OutOfMemory, Stopped}
-use Rattle.vx_machine_nodes.specs.Calls.{SinkTold}
+use Rattle.vx_machine.specs.TaskCalls.{SinkTold}
 use Rattle.vx_machine.specs.Calls.{SourceTold}
 
 module _ (before now : ℕ) (may may_then must must_then : ℕ → Type 0) where

@@ -14,7 +14,7 @@ use Rattle.vx_desk.specs.DeskView.{segments_in}
 use Rattle.vx_machine_ids.specs.Balance.{Exact}
 use Rattle.vx_machine_view.specs.Machine.{machine_ids}
 use Rattle.vx_machine_view.proofs.Words.{and_left, and_right}
-use Rattle.vx_machine_nodes.specs.Acting.{Behind}
+use Rattle.vx_machine.specs.Acting.{Behind}
 use Rattle.vx_machine.specs.declared.machine.Machine.{Machine}
 use Rattle.vx_machine.specs.View.{machine_of}
 use Rattle.vx_machine.specs.Whole.{machine_stock}

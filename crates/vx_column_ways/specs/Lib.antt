@@ -1,1 +1,2 @@
+pub mod ColumnCount
 pub mod Ways

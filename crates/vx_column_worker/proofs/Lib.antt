@@ -4,3 +4,4 @@ pub mod Begun
 pub mod Ended
 pub mod Staffing
 pub mod Crossing
+pub use Rattle.vx_column_machine.proofs.Begins

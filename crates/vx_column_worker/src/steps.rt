@@ -4,7 +4,7 @@ ghost use Rattle.std.specs.Prelude.{◌≡◌, ◌+◌, false, length, IfOk, IfE
 ghost use Rattle.vx_layout_tree.specs.LayoutView.{layout_data};
 ghost use Rattle.vx_write_answer.specs.Causes.{is_sink_fault};
 ghost use Rattle.vx_machine_view.specs.Machine.{is_finished};
-ghost use Rattle.vx_machine.specs.View.{machine_of};
+ghost use Rattle.vx_column_machine.specs.View.{machine_of};
 ghost use Rattle.vx_column_machine.specs.Course.{Course, plan_of};
 ghost use Rattle.vx_column_machine.specs.Underway.{InBalance};
 ghost use Rattle.vx_column_machine.specs.Causes.{IsDone, StepPressed};

@@ -1,5 +1,5 @@
 -- What an object tells of its contents: a list, or nothing.
-use Rattle.std.specs.Prelude.{◌≡◌, List, [], ◌++◌, Option, Some, None, option_map}
+use Rattle.std.specs.Prelude.{◌≡◌, ℕ, ◌+◌, Bool, if◌then◌else◌, List, [], ◌∷◌, ◌++◌, length, Option, Some, None, option_map}
 
 -- these stood in front of what it tells now
 abbrev pub before_told : {A : Type 0} → List A → Option (List A) → Option (List A)
@@ -13,3 +13,11 @@ then_told told more = option_map (λ front. front ++ more) told
 abbrev pub NoneTold : {A : Type 0} → Option (List A) → Type 0
 NoneTold None = Unit {0}
 NoneTold (Some xs) = xs ≡ []
+
+-- how often it has answered that told these, and its end where that was heard
+abbrev pub answers_in : {A : Type 0} → List A → Bool → ℕ
+answers_in taken heard = length taken + (if heard then 1 else 0)
+
+-- the last that it told
+abbrev pub TookLast : {A : Type 0} → List A → A → Type 0
+TookLast {A} taken b = (front : List A) × (taken ≡ front ++ b ∷ [])

@@ -15,3 +15,5 @@ pub mod Fewness
 pub mod Going
 pub mod Coming
 pub use Rattle.vx_machine_node.proofs.LedgerSteps
+pub use Rattle.vx_machine_tasks.proofs.PairSteps
+pub use Rattle.vx_machine_task.proofs.ReservedSteps

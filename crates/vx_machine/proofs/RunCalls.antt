@@ -1,8 +1,8 @@
 -- Calls of a run, one after the other.
-use Rattle.std.proofs.Common.{◌≡◌, ◌⊎◌, ℕ, ◌+◌, ◌<◌, Bool, true, false, List, [], ◌∷◌, ◌++◌, IsTrue, below_more, inl, inr, ⊎_elim, refl, sym, subst, ◌∙◌, arith}
+use Rattle.std.proofs.Common.{◌≡◌, ◌⊎◌, ℕ, ◌+◌, ◌<◌, Bool, true, false, List, [], ◌∷◌, ◌++◌, IsTrue, inl, inr, refl, sym, subst, ◌∙◌, arith}
 use Rattle.std.proofs.lemmas.Bool.{true≢false}
-use Rattle.vx_fault.specs.Counts.{Counts}
 use Rattle.vx_fault.specs.Faults.{Called, FaultsTold}
+use Rattle.vx_fault.proofs.Answering.{Answered, unforced, then_called, then_left, then_failed}
 use Rattle.vx_order.specs.Answers.{Unasked}
 use Rattle.vx_write_answer.specs.Causes.{is_source_fault, is_sink_fault, is_compress_fault}
 use Rattle.vx_write_answer.specs.declared.step.Step.{Step}
@@ -60,24 +60,10 @@ calls_more (q ∷ qs) s = let h = calls_more qs s in omega (arith, h)
 
 -- ---- what is told of so many calls, none of which failed
 
-pub record Answered {S : Type 0} (faults : S → ℕ) (may must : S → ℕ → Type 0) (a b : S) (n : ℕ) : Type 0 where
-  pub counted : faults b ≡ faults a
-  pub fewer : (k : ℕ) → may b k → may a (n + k)
-  pub more : (k : ℕ) → must a (n + k) → must b k
-  pub passed : (k : ℕ) → k < n → ¬ must a k
-
 not_yet : IsTrue false → ⊥
 not_yet h = true≢false (sym h)
 
 module _ {S : Type 0} (faults : S → ℕ) (may must : S → ℕ → Type 0) where
-  pub none_called : (a : S) → Answered faults may must a a 0
-  none_called a = record {
-    counted = refl;
-    fewer = λ k h. let e : k ≡ 0 + k = omega arith in subst (may a) e h;
-    more = λ k h. let e : 0 + k ≡ k = omega arith in subst (must a) e h;
-    passed = λ k l. absurd (omega (arith, l));
-  }
-
   module _ (a b c : S) (n : ℕ) (t : Answered faults may must a b n) where
     then_unasked : Unasked (faults b) (faults c) (may b) (may c) (must b) (must c) → Answered faults may must a c n
     then_unasked u = record {
@@ -87,41 +73,22 @@ module _ {S : Type 0} (faults : S → ℕ) (may must : S → ℕ → Type 0) whe
       passed = t.passed;
     }
 
-    -- the last call wasn't one that must fail
-    unforced : Called (faults b) (faults c) (may b) (may c) (must b) (must c) false → ¬ must a n
-    unforced x h = let e : n ≡ n + 0 = omega arith in not_yet (x.forced (t.more 0 (subst (must a) e h)))
-
-    then_called : Called (faults b) (faults c) (may b) (may c) (must b) (must c) false → Answered faults may must a c (n + 1)
-    then_called x = record {
-      counted = x.counted ∙ t.counted;
-      fewer = λ k h. let e : n + (k + 1) ≡ (n + 1) + k = omega arith in subst (may a) e (t.fewer (k + 1) (x.fewer k h));
-      more = λ k h. let e : (n + 1) + k ≡ n + (k + 1) = omega arith in x.more k (t.more (k + 1) (subst (must a) e h));
-      passed = below_more (λ (k : ℕ). ¬ must a k) n t.passed (unforced x);
-    }
-
     pub then_answered : (m p : ℕ) → p ≡ n + m → (m ≡ 0) ⊎ (m ≡ 1) → CalledTimes (faults b) (faults c) (may b) (may c) (must b) (must c) m → Answered faults may must a c p
     then_answered m p is (inl e) h =
         let same : n ≡ p = omega (arith, is, e) in
         subst (λ z. Answered faults may must a c z) same (then_unasked (subst (λ z. CalledTimes (faults b) (faults c) (may b) (may c) (must b) (must c) z) e h))
     then_answered m p is (inr e) h =
         let same : n + 1 ≡ p = omega (arith, is, e) in
-        subst (λ z. Answered faults may must a c z) same (then_called (subst (λ z. CalledTimes (faults b) (faults c) (may b) (may c) (must b) (must c) z) e h))
+        subst (λ z. Answered faults may must a c z) same (then_called faults may must a b c n t (subst (λ z. CalledTimes (faults b) (faults c) (may b) (may c) (must b) (must c) z) e h))
 
     -- ---- the end of a run
 
     quietly : MaybeCalled (faults b) (faults c) (may b) (may c) (must b) (must c) → FaultsTold (faults a) (faults c) (may a) (must a) n false
-    quietly h = record {
-      counted = ⊎_elim (λ u. u.counted ∙ t.counted) (λ x. x.counted ∙ t.counted) h;
-      allowed = λ f. absurd (not_yet f);
-      passed = t.passed;
-    }
+    quietly (inl u) = record { counted = u.counted ∙ t.counted; allowed = λ f. absurd (not_yet f); passed = t.passed }
+    quietly (inr x) = then_left faults may must a b c n t x
 
     failing : Called (faults b) (faults c) (may b) (may c) (must b) (must c) true → FaultsTold (faults a) (faults c) (may a) (must a) n true
-    failing x = record {
-      counted = subst (λ z. Counts z (faults c) true) t.counted x.counted;
-      allowed = λ f. let e : n + 0 ≡ n = omega arith in subst (may a) e (t.fewer 0 (x.allowed refl));
-      passed = t.passed;
-    }
+    failing x = then_failed faults may must a b c n t x
 
     pub sink_ends : (e : WriteError) → SinkStops (faults b) (faults c) (may b) (may c) (must b) (must c) e → FaultsTold (faults a) (faults c) (may a) (must a) n (is_sink_fault e)
     sink_ends SourceFault h = quietly h
@@ -177,20 +144,10 @@ module _ {S : Type 0} (faults : S → ℕ) (may must : S → ℕ → Type 0) whe
 
     -- a read that gave a batch of another type
     read_passed : (reads : Bool) → MisfitTold (faults b) (faults c) (may b) (may c) (must b) (must c) reads → reads ≡ true → ¬ must a n
-    read_passed true h is = unforced h
+    read_passed true h is = unforced faults may must a b c n t h
     read_passed false h is = absurd (true≢false (sym is))
 
     -- of a batch of another type, where the step reads
     pub misfit_passed : (x y : Bool) (e : WriteError) → y ≡ x → SourceStops (faults b) (faults c) (may b) (may c) (must b) (must c) x e → OfMisfit e (y ≡ true → ¬ must a n)
     misfit_passed x y (BatchType p) is h = λ r. read_passed x h (sym is ∙ r)
     misfit_passed x y e is h = tt
-
-  -- where nothing is asked any more
-  pub ended : (a b c : S) (n p : ℕ) → p ≡ n → c ≡ b → Answered faults may must a b n → FaultsTold (faults a) (faults c) (may a) (must a) p false
-  ended a b c n p is same t =
-      subst (λ z. FaultsTold (faults a) (faults c) (may a) (must a) z false) (sym is)
-      (record { counted = subst (λ z. faults z ≡ faults a) (sym same) t.counted; allowed = λ f. absurd (not_yet f); passed = t.passed })
-
--- one answer more
-pub answer_more : (b c : ℕ) (may must : ℕ → Type 0) (n : ℕ) → FaultsTold b c may must n false → ¬ must n → FaultsTold b c may must (n + 1) false
-answer_more b c may must n t h = record { counted = t.counted; allowed = λ f. absurd (not_yet f); passed = below_more (λ (k : ℕ). ¬ must k) n t.passed h }

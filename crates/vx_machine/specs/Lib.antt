@@ -15,3 +15,4 @@ pub use Rattle.vx_machine_tasks.specs.Acting as TaskActing
 pub use Rattle.vx_machine_task.specs.Ready
 pub use Rattle.vx_machine_tasks.specs.Starting as TaskStarting
 pub use Rattle.vx_machine_node.specs.View as TaskView
+pub use Rattle.vx_machine_tasks.specs.Pairs

@@ -16,8 +16,8 @@ use Rattle.vx_plan.specs.Valid.{Valid}
 use Rattle.vx_fault.specs.Counts.{IsCalm}
 use Rattle.vx_fault.specs.Fails.{fails_at}
 use Rattle.vx_fault.specs.Told.{before_told, NoneTold}
-use Rattle.vx_write.specs.Readable.{IsReadable}
-use Rattle.vx_write.specs.Written.{Planned, Wrote}
+use Rattle.vx_write_columns.specs.Readable.{IsReadable}
+use Rattle.vx_write_columns.specs.Written.{Planned, Wrote}
 use Rattle.vx_write_answer.specs.Causes.{is_source_fault}
 use Rattle.vx_write_answer.specs.declared.error.WriteError.{WriteError}
 use Rattle.vx_write_answer.specs.declared.error.WriteError.TheVariants as errors

@@ -12,9 +12,9 @@ use Rattle.vx_job.specs.declared.error.Key.TheVariants as keys
 use Rattle.vx_job.specs.JobText.{JobData}
 use Rattle.vx_report.specs.Report.{columns_report, refused_columns}
 use Rattle.vx_report.specs.ZoneText.{zone_tables}
-use Rattle.vx_write.specs.ColumnCount.{column_count}
-use Rattle.vx_write.specs.Readable.{IsReadable}
-use Rattle.vx_write.specs.Written.{Wrote}
+use Rattle.vx_write_columns.specs.ColumnCount.{column_count}
+use Rattle.vx_write_columns.specs.Readable.{IsReadable}
+use Rattle.vx_write_columns.specs.Written.{Wrote}
 use Rattle.vx_write_answer.specs.declared.error.WriteError.{WriteError}
 use Rattle.vx_write_answer.specs.declared.error.WriteError.TheVariants as errors
 use Rattle.vx_write_columns.specs.Beside.{PassesBeside}

@@ -11,7 +11,7 @@ ghost use Rattle.vx_job.specs.JobText.{job};
 ghost use Rattle.vx_job.specs.JobView.{job_view};
 ghost use Rattle.vx_report.specs.Report.{columns_report, refused_columns};
 ghost use Rattle.vx_report.specs.ZoneText.{zone_tables};
-ghost use Rattle.vx_write.specs.ColumnCount.{column_count};
+ghost use Rattle.vx_write_columns.specs.ColumnCount.{column_count};
 ghost use Rattle.vx_run.specs.declared.status.Status.TheVariants as statuses;
 ghost use Rattle.vx_run.specs.Answers.{IsText};
 ghost use Rattle.vx_run.specs.RefusalNames.{refusal_name, is_memory};
@@ -32,9 +32,8 @@ use vx_run::{Answer, Status, bad_job, context, numbered, read_back, read_tables,
 use vx_sink::{ListSource, MemorySink};
 use vx_strategy::Strategy;
 use vx_table_compressor::TableCompressor;
-use vx_write::column_count;
 use vx_write_answer::WriteError;
-use vx_write_columns::write_columns;
+use vx_write_columns::{column_count, write_columns};
 
 /// The answer to the bytes of an input.
 pub(crate) fn columns_answer<G: Gate + Sync, R: Threads + Wait + Sync>(

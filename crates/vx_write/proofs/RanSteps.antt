@@ -30,7 +30,7 @@ use Rattle.vx_fault.specs.Faults.{FaultsTold}
 use Rattle.vx_machine.specs.Calls.{reads_in, misfits}
 use Rattle.vx_machine.specs.Context.{Allowed, setting_of}
 use Rattle.vx_machine.specs.Run.{at, RunDone, RunTold}
-use Rattle.vx_machine.proofs.RunCalls.{answer_more}
+use Rattle.vx_fault.proofs.Answering.{answer_more}
 use Rattle.vx_write.specs.Ran.{own_sink}
 use Rattle.vx_write.proofs.Imaging.{images_keep}
 use Rattle.vx_write_answer.specs.declared.error.WriteError.TheVariants as errors

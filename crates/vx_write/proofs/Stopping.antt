@@ -4,7 +4,7 @@ use Rattle.std.proofs.lemmas.Bool.{true≢false}
 use Rattle.std.proofs.Math.Nat.{mod-lt}
 use Rattle.vx_model.specs.Ty.{Ty}
 use Rattle.vx_model.specs.ChunkData.{ChunkData}
-use Rattle.vx_fault.specs.Told.{before_told, then_told, NoneTold}
+use Rattle.vx_fault.specs.Told.{before_told, then_told, NoneTold, answers_in}
 use Rattle.vx_path.specs.Lists.{In}
 use Rattle.vx_path.specs.Path.{Eof, root_eof}
 use Rattle.vx_tasks.specs.Task.{Forest}
@@ -61,7 +61,7 @@ use Rattle.vx_write.specs.Runs.{Halts, StoppedHalts}
 use Rattle.vx_machine.proofs.StepShows.{asks_not, tells_memory}
 use Rattle.vx_write.specs.RefusedAct.{NextAct, IsRead, IsOwn, RefusedThere}
 use Rattle.vx_machine.specs.Progress.{ShowsNote}
-use Rattle.vx_write.specs.Traced.{tasks_of, IsRefusal, StepsBegin, StepsAreFirst, answers_in, IsLate}
+use Rattle.vx_write.specs.Traced.{tasks_of, IsRefusal, StepsBegin, StepsAreFirst, IsLate}
 use Rattle.vx_write.specs.Tracking.{Passes}
 use Rattle.vx_write.specs.Written.{AreFirst, NeedsNumber, HasCause, AskedInSteps}
 use Rattle.vx_machine.proofs.Fewness.{Few, whole_few}

@@ -34,7 +34,8 @@ use Rattle.vx_machine.specs.Run.{At, ready_at}
 use Rattle.vx_machine.proofs.Going.{pick_here}
 use Rattle.vx_write.specs.Ran.{write_by, Onward}
 use Rattle.vx_machine.specs.Progress.{ShowsNote}
-use Rattle.vx_write.specs.Traced.{IsTraced, answers_in}
+use Rattle.vx_fault.specs.Told.{answers_in}
+use Rattle.vx_write.specs.Traced.{IsTraced}
 
 -- ---- lists of steps
 

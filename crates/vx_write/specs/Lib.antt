@@ -6,7 +6,7 @@ pub mod NowhereStuck
 pub mod Written
 pub mod Runs
 pub mod Answered
-pub mod ColumnCount
+pub use Rattle.vx_column_ways.specs.ColumnCount
 pub mod Lent
 pub mod Answer
 pub use Rattle.vx_machine.specs.Calls

@@ -1,5 +1,5 @@
 -- What the steps of a write show, against the tasks of what was planned.
-use Rattle.std.specs.Prelude.{◌≡◌, ◌⊎◌, ◌+◌, ◌<◌, ℕ, Bool, true, false, List, [], length, take, Option, Some, if◌then◌else◌}
+use Rattle.std.specs.Prelude.{◌≡◌, ◌⊎◌, ◌+◌, ◌<◌, ℕ, Bool, true, false, List, [], length, take, Option, Some}
 use Rattle.vx_model.specs.Ty.{Ty}
 use Rattle.vx_model.specs.ChunkData.{ChunkData}
 use Rattle.vx_tasks.specs.Task.{Forest}
@@ -61,7 +61,3 @@ StepsBeginAll s w t m told schedule steps = (xs : List ChunkData) → told ≡ S
 pub record StepsAreFirst (tasks : Forest) (schedule : List ℕ) (steps : List Step) (e : WriteError) : Type 0 where
   pub begin : StepsBegin tasks schedule steps
   pub all : IsRefusal e → (steps ≡ []) ⊎ AllPairs ShowsNote steps (trace tasks schedule)
-
--- how often the source has answered that told these batches, and its end where that was heard
-abbrev pub answers_in : List ChunkData → Bool → ℕ
-answers_in taken heard = length taken + (if heard then 1 else 0)

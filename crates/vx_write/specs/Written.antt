@@ -1,8 +1,8 @@
 -- What a write by the machine answers, against the plan.
-use Rattle.std.specs.Prelude.{◌≡◌, ℕ, ◌+◌, ◌^◌, ◌<◌, ◌≤◌, ◌⊎◌, max, Bool, true, false, List, [], ◌∷◌, ◌++◌, length, Option, Some}
+use Rattle.std.specs.Prelude.{◌≡◌, ℕ, ◌+◌, ◌^◌, ◌<◌, ◌≤◌, ◌⊎◌, max, Bool, true, false, List, [], ◌++◌, length, Option, Some}
 use Rattle.vx_model.specs.Ty.{Ty}
 use Rattle.vx_model.specs.ChunkData.{ChunkData, piece_type}
-use Rattle.vx_fault.specs.Told.{before_told, then_told, NoneTold}
+use Rattle.vx_fault.specs.Told.{before_told, then_told, NoneTold, answers_in, TookLast}
 use Rattle.vx_layout_spec.specs.LayoutTree.{LayoutData}
 use Rattle.vx_layout_spec.specs.Rows.{rows}
 use Rattle.vx_segment_reader.specs.Codec.{segment_codec}
@@ -16,7 +16,7 @@ use Rattle.vx_write_answer.specs.declared.error.WriteError.{WriteError}
 use Rattle.vx_write_answer.specs.declared.error.WriteError.TheVariants.{SourceFault, SinkFault, CompressFault, BatchType, NotStruct, DuplicateField, ManyChunks, EmptyList, ZoneCut, ForbiddenAggregate, ForbiddenEncoding, TooLarge, OutOfMemory, Stopped}
 use Rattle.vx_machine.specs.Calls.{reads_in, misfits}
 use Rattle.vx_machine_promises.specs.Write.{Write}
-use Rattle.vx_write.specs.Traced.{tasks_of, StepsBeginAll, StepsAreFirst, answers_in, IsLate}
+use Rattle.vx_write.specs.Traced.{tasks_of, StepsBeginAll, StepsAreFirst, IsLate}
 use Rattle.vx_write.specs.Tracking.{PassesAt}
 use Rattle.vx_write.specs.RefusedAct.{RefusedThere}
 
@@ -62,10 +62,6 @@ AreFirst stood p = (more : List (List ℕ)) × (segments p ≡ stood ++ more)
 abbrev pub AreFirstOfAll : Setting → StrategyData → Ty → Bool → Option (List ChunkData) → List (List ℕ) → Type 0
 AreFirstOfAll s w t m told stood =
     Planned s w t m told (λ xs p. (OfSchema t xs → AreFirst stood p) × (¬ OfSchema t xs → AreFirst stood (taken_plan s w t m xs false)))
-
--- the last batch taken
-abbrev pub TookLast : List ChunkData → ChunkData → Type 0
-TookLast taken b = (front : List ChunkData) × (taken ≡ front ++ b ∷ [])
 
 -- the number doesn't fit 32 bits, and is the next segment's, which the plan has: so many of its segments stand
 abbrev pub NeedsNumber : Plan → ℕ → ℕ → ℕ → Type 0

@@ -33,7 +33,7 @@ use Rattle.vx_column_plan.proofs.SharedLaws.{columns_are_allowed, columns_are_la
 use Rattle.vx_moved_plans.specs.Moved.{Moving, moved_pairs, moved_faults, IsMovedAlike, at_column}
 use Rattle.vx_column_moves.specs.Moves.{column_chunks, own_plan_at, IsColumnMoved}
 use Rattle.vx_column_moves.proofs.Standing.{column_moves_in}
-use Rattle.vx_column_machine.specs.Course.{Course, plan_of}
+use Rattle.vx_column_worker.specs.Course.{Course, plan_of}
 use Rattle.vx_column_worker.specs.Jobs.{AllAllowed}
 use Rattle.vx_write_columns.specs.Courses.{column_courses, pairs_beside}
 use Rattle.vx_write_columns.specs.Numbers.{AllIn, AllStandIn, layouts_by}

@@ -21,8 +21,8 @@ use Rattle.vx_column_plan.proofs.ColumnLaws.{struct_is_columns}
 use Rattle.vx_moved_plans.specs.Moved.{Moving, moved_place, moved_faults, at_column}
 use Rattle.vx_column_moves.specs.Moves.{column_chunks}
 use Rattle.vx_column_ways.specs.Ways.{columns_in}
-use Rattle.vx_column_machine.specs.Course.{Course, plan_of}
-use Rattle.vx_column_machine.specs.Causes.{Passes}
+use Rattle.vx_column_worker.specs.Course.{Course, plan_of}
+use Rattle.vx_column_worker.specs.Causes.{Passes}
 use Rattle.vx_column_worker.specs.Worked.{WorkerCause, SharedPast}
 use Rattle.vx_column_inputs.specs.Prepared.{SplitStops}
 use Rattle.vx_write_answer.specs.declared.error.WriteError.{WriteError}

@@ -17,7 +17,7 @@ use Rattle.vx_sink.specs.declared.list_source.ListSource.{ListSource}
 use Rattle.vx_column_plan.specs.Shared.{number_by}
 use Rattle.vx_write_answer.specs.declared.error.WriteError.{WriteError}
 use Rattle.vx_write_answer.specs.declared.error.WriteError.TheVariants.{OutOfMemory}
-use Rattle.vx_column_machine.specs.Course.{Course, plan_of}
+use Rattle.vx_column_worker.specs.Course.{Course, plan_of}
 use Rattle.vx_column_inputs.specs.declared.inputs.Input.{Input}
 use Rattle.vx_column_worker.specs.declared.worker.Job.{Job}
 use Rattle.vx_column_worker.specs.declared.worker.Done.{Done}

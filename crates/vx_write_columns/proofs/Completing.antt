@@ -2,7 +2,7 @@
 use Rattle.std.proofs.Common.{◌≡◌, ◌+◌, ◌^◌, ◌<◌, ◌≤◌, ◌⊎◌, ◌∷◌, ◌++◌, ◌∙◌, ℕ, Bool, true, false, List, length, Option, Some, None, refl, sym, ap, subst, inl, inr, arith, append-nil, []}
 use Rattle.vx_model.specs.Ty.{Ty, Tys, struct}
 use Rattle.vx_model.specs.ChunkData.{ChunkData, piece_type}
-use Rattle.vx_fault.specs.Told.{before_told, NoneTold}
+use Rattle.vx_fault.specs.Told.{before_told, NoneTold, TookLast}
 use Rattle.vx_named_tasks.specs.Names.{Outset}
 use Rattle.vx_strategy_spec.specs.StrategyData.{StrategyData, StrategyList, structured}
 use Rattle.vx_strategy_spec.specs.Walk.{duplicate}
@@ -15,7 +15,6 @@ use Rattle.vx_machine_runs.proofs.Sounding.{fits, none_has}
 use Rattle.vx_write_answer.specs.declared.error.WriteError.{WriteError}
 use Rattle.vx_write_answer.specs.declared.error.WriteError.TheVariants.{SourceFault, SinkFault, CompressFault, BatchType, NotStruct, DuplicateField, ManyChunks, EmptyList, ZoneCut, ForbiddenAggregate, ForbiddenEncoding, TooLarge, OutOfMemory, Stopped}
 use Rattle.vx_write.specs.Answered.{IsOutside}
-use Rattle.vx_write.specs.Written.{TookLast}
 use Rattle.vx_write_columns.specs.Beside.{PassesBeside}
 use Rattle.vx_write_columns.specs.Stopped.{IsNumberPast, HasColumnsCause, StopsReading, ColumnsHalted}
 use Rattle.vx_write_columns.proofs.Causing.{repeats}

@@ -11,7 +11,7 @@ use Rattle.vx_seats.specs.Turns.{NeverFails}
 use Rattle.vx_write_answer.specs.declared.error.WriteError.{WriteError}
 use Rattle.vx_write_answer.specs.declared.error.WriteError.TheVariants.{SinkFault, CompressFault, OutOfMemory}
 use Rattle.vx_write_answer.specs.Causes.{is_sink_fault}
-use Rattle.vx_column_machine.specs.Course.{Course}
+use Rattle.vx_column_worker.specs.Course.{Course}
 use Rattle.vx_column_worker.specs.Staffed.{Counts}
 use Rattle.vx_column_worker.specs.Worked.{WorkerCause, SharedPast, SeatStopped, PressedOnly}
 use Rattle.vx_write_columns.specs.Numbers.{ColumnOutcome, AllOk, IsFirstOwn}

@@ -23,7 +23,7 @@ use Rattle.vx_column_plan.specs.Shared.{allowed_by}
 use Rattle.vx_moved_plans.specs.Moved.{at_column}
 use Rattle.vx_column_ways.specs.Ways.{columns_in}
 use Rattle.vx_machine_node.specs.Context.{setting_of}
-use Rattle.vx_column_machine.specs.Course.{Course, plan_of}
+use Rattle.vx_column_worker.specs.Course.{Course, plan_of}
 use Rattle.vx_column_inputs.specs.declared.inputs.Columns.{Columns}
 use Rattle.vx_column_inputs.specs.declared.inputs.Input.{Input}
 use Rattle.vx_column_inputs.specs.Prepared.{AreInputs, ArePrepared}

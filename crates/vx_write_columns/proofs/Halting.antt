@@ -4,7 +4,7 @@ use Rattle.std.proofs.lemmas.Bool.{true≢false}
 use Rattle.vx_model.specs.Ty.{Ty, Tys, struct, nullable}
 use Rattle.vx_model.specs.ChunkData.{ChunkData}
 use Rattle.vx_chunk_cells.specs.Parts.{struct_fields}
-use Rattle.vx_fault.specs.Told.{before_told, then_told}
+use Rattle.vx_fault.specs.Told.{before_told, then_told, answers_in}
 use Rattle.vx_strategy_spec.specs.StrategyData.{StrategyData, StrategyList, structured}
 use Rattle.vx_strategy_spec.specs.Walk.{duplicate}
 use Rattle.vx_strategy_spec.specs.Dispatch.{dispatch}
@@ -14,7 +14,7 @@ use Rattle.vx_plan.specs.Valid.{OfSchema}
 use Rattle.vx_seats.specs.History.{stored}
 use Rattle.vx_column_plan.specs.Columns.{columns_by}
 use Rattle.vx_column_plan.specs.Shared.{allowed_by, AreSome}
-use Rattle.vx_column_machine.specs.Course.{Course}
+use Rattle.vx_column_worker.specs.Course.{Course}
 use Rattle.vx_column_inputs.specs.Reading.{SourceTold, StopsBehind, ReadStops}
 use Rattle.vx_column_inputs.specs.Prepared.{SplitStops, RefusedWhole, PrepareStops}
 use Rattle.vx_column_worker.specs.Worked.{WorkerCause, SharedPast}
@@ -22,7 +22,6 @@ use Rattle.vx_write_answer.specs.declared.error.WriteError.{WriteError}
 use Rattle.vx_write_answer.specs.declared.error.WriteError.TheVariants.{SourceFault, SinkFault, CompressFault, BatchType, NotStruct, DuplicateField, ManyChunks, EmptyList, ZoneCut, ForbiddenAggregate, ForbiddenEncoding, TooLarge, OutOfMemory, Stopped}
 use Rattle.vx_write_answer.specs.Causes.{is_source_fault}
 use Rattle.vx_write.specs.ColumnCount.{columns_of}
-use Rattle.vx_write.specs.Traced.{answers_in}
 use Rattle.vx_write_columns.proofs.Told.{told_same, then_same}
 use Rattle.vx_write_columns.specs.Beside.{PassesBeside}
 use Rattle.vx_write_columns.specs.Courses.{column_courses}

@@ -7,7 +7,7 @@ use Rattle.vx_seats.specs.History.{Pair}
 use Rattle.vx_seats.specs.Turns.{NeverFails}
 use Rattle.vx_write_answer.specs.declared.error.WriteError.{WriteError}
 use Rattle.vx_write_answer.specs.declared.error.WriteError.TheVariants.{SinkFault, CompressFault, OutOfMemory}
-use Rattle.vx_column_machine.specs.Course.{Course}
+use Rattle.vx_column_worker.specs.Course.{Course}
 use Rattle.vx_write_columns.proofs.Told.{then_same}
 use Rattle.vx_write_columns.specs.Shared.{StandsBy, SharedDone, SharedStopped}
 use Rattle.vx_write_columns.specs.Stopped.{KeptOrFailed, AllKeptOrFailed, Failed}

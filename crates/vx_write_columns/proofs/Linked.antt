@@ -7,7 +7,7 @@ use Rattle.vx_plan.specs.SourcePlan.{plan, batch_items}
 use Rattle.vx_machine_turns.specs.Source.{named_items, reaching}
 use Rattle.vx_path.specs.Path.{column_eof}
 use Rattle.vx_column_moves.specs.Moves.{own_plan_at}
-use Rattle.vx_column_machine.specs.Course.{Course, plan_of}
+use Rattle.vx_column_worker.specs.Course.{Course, plan_of}
 
 items_are : (i : ℕ) (bs : List ChunkData) → named_items (onward (record { stem = 0 ∷ []; last = i })) bs ≡ batch_items i bs
 items_are i [] = refl

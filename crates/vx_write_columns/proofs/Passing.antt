@@ -16,9 +16,9 @@ use Rattle.vx_machine_promises.specs.Write.{Future, planned_at}
 use Rattle.vx_machine_promises.specs.Reached.{ReachedAt, moves_at}
 use Rattle.vx_machine_promises.specs.Promises.{MovesAreCountedAt, CountedBy}
 use Rattle.vx_machine_runs.proofs.Counting.{nth_in}
-use Rattle.vx_column_machine.specs.Course.{Course, write_of, outset_of, plan_of}
-use Rattle.vx_column_machine.specs.Causes.{Passes}
-use Rattle.vx_column_machine.proofs.Begins.{can_begin}
+use Rattle.vx_column_worker.specs.Course.{Course, write_of, outset_of, plan_of}
+use Rattle.vx_column_worker.specs.Causes.{Passes}
+use Rattle.vx_column_worker.proofs.Begins.{can_begin}
 use Rattle.vx_write_columns.specs.Beside.{PassesBeside}
 use Rattle.vx_write_columns.proofs.Causing.{course_at, course_there, reserves_within}
 

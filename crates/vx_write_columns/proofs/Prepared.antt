@@ -18,7 +18,7 @@ use Rattle.vx_column_moves.specs.Moves.{column_chunks}
 use Rattle.vx_column_ways.specs.Ways.{column_of}
 use Rattle.vx_machine_state.specs.Images.{images_of}
 use Rattle.vx_machine_node.specs.Context.{setting_of}
-use Rattle.vx_column_machine.specs.Course.{Course, plan_of}
+use Rattle.vx_column_worker.specs.Course.{Course, plan_of}
 use Rattle.vx_column_inputs.specs.declared.inputs.Input.{Input}
 use Rattle.vx_column_inputs.specs.Prepared.{IsInput, AreInputs}
 use Rattle.vx_column_worker.specs.Jobs.{course_of, AllAllowed, JobFits, JobsFit}

@@ -18,8 +18,8 @@ use Rattle.vx_sink.specs.declared.list_source.ListSource.{ListSource}
 use Rattle.vx_write_answer.specs.declared.error.WriteError.{WriteError}
 use Rattle.vx_write_answer.specs.declared.error.WriteError.TheVariants.{SourceFault, SinkFault, CompressFault, BatchType, NotStruct, DuplicateField, ManyChunks, EmptyList, ZoneCut, ForbiddenAggregate, ForbiddenEncoding, TooLarge, OutOfMemory, Stopped}
 use Rattle.vx_write_answer.specs.Causes.{is_sink_fault}
-use Rattle.vx_column_machine.specs.Course.{Course, plan_of}
-use Rattle.vx_column_machine.specs.Causes.{IsDone}
+use Rattle.vx_column_worker.specs.Course.{Course, plan_of}
+use Rattle.vx_column_worker.specs.Causes.{IsDone}
 use Rattle.vx_column_inputs.specs.declared.inputs.Input.{Input}
 use Rattle.vx_column_worker.specs.declared.worker.Job.{Job}
 use Rattle.vx_column_worker.specs.declared.worker.Done.{Done}

@@ -23,7 +23,7 @@ use Rattle.vx_seats.specs.History.{Pair, bytes_at, stored}
 use Rattle.vx_column_plan.specs.Columns.{Column, columns_by}
 use Rattle.vx_column_plan.specs.Shared.{allowed_by, IsWhole, AreSome}
 use Rattle.vx_column_plan.proofs.SharedLaws.{whole_is_planned, history_is_of_plan}
-use Rattle.vx_column_machine.specs.Course.{Course}
+use Rattle.vx_column_worker.specs.Course.{Course}
 use Rattle.vx_write_answer.specs.declared.error.WriteError.{WriteError}
 use Rattle.vx_write.specs.Written.{Planned, Wrote}
 use Rattle.vx_write_columns.proofs.Told.{stored_length}

@@ -8,7 +8,7 @@ use Rattle.vx_plan.specs.PlanData.{Setting}
 use Rattle.vx_column_plan.specs.Columns.{Column}
 use Rattle.vx_column_ways.specs.Ways.{columns_in}
 use Rattle.vx_column_moves.specs.Moves.{column_chunks}
-use Rattle.vx_column_machine.specs.Causes.{Passes}
+use Rattle.vx_column_worker.specs.Causes.{Passes}
 
 -- the kind of compressors that have one
 abbrev pub kind_of : List ℕ → ℕ

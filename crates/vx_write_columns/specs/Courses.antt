@@ -7,7 +7,7 @@ use Rattle.vx_sink.specs.declared.list_source.ListSource.{ListSource}
 use Rattle.vx_column_plan.specs.Columns.{Column}
 use Rattle.vx_moved_plans.specs.Moved.{moved_pairs, at_column}
 use Rattle.vx_column_moves.specs.Moves.{column_chunks}
-use Rattle.vx_column_machine.specs.Course.{Course, plan_of}
+use Rattle.vx_column_worker.specs.Course.{Course, plan_of}
 use Rattle.vx_column_inputs.specs.declared.inputs.Input.{Input}
 use Rattle.vx_column_worker.specs.Jobs.{course_of}
 

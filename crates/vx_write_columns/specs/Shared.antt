@@ -8,7 +8,7 @@ use Rattle.vx_plan.specs.Valid.{Fit}
 use Rattle.vx_order_answer.specs.declared.receipt.Receipt.{Receipt}
 use Rattle.vx_seats.specs.History.{Pair, all_listed, ascends, paths, numbered, stored}
 use Rattle.vx_column_plan.specs.Shared.{number_by}
-use Rattle.vx_column_machine.specs.Course.{Course, plan_of}
+use Rattle.vx_column_worker.specs.Course.{Course, plan_of}
 use Rattle.vx_column_worker.specs.Worked.{WorkerCause, SharedPast}
 use Rattle.vx_write_answer.specs.declared.error.WriteError.{WriteError}
 use Rattle.vx_write_answer.specs.declared.error.WriteError.TheVariants.{OutOfMemory}

@@ -4,4 +4,5 @@
 mod write;
 
 pub use vx_gate::{Gate, NoGate};
+pub use vx_write::column_count;
 pub use write::write_columns;

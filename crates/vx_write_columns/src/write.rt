@@ -14,7 +14,7 @@ ghost use Rattle.vx_plan.specs.Number.{segments};
 ghost use Rattle.vx_plan.specs.Valid.{Valid, Keeps};
 ghost use Rattle.vx_seats.specs.History.{numbered};
 ghost use Rattle.vx_seats.specs.Turns.{NeverFails};
-ghost use Rattle.vx_column_machine.specs.Course.{plan_of};
+ghost use Rattle.vx_column_worker.specs.Course.{plan_of};
 ghost use Rattle.vx_column_worker.specs.Jobs.{JobsFit};
 ghost use Rattle.vx_column_worker.specs.Staffed.{IsStaffed, list_kind, list_may_fail, list_to_come};
 ghost use Rattle.vx_write_answer.specs.declared.error.WriteError.TheVariants.{SinkFault, CompressFault, OutOfMemory};

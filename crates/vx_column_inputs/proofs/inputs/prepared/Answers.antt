@@ -7,7 +7,7 @@ use Rattle.vx_sink.specs.ContextView.{is_marked, listed, allowed_in}
 use Rattle.vx_sink.specs.contracts.list_source.ListSourceBatchSource.TheImpl as source
 use Rattle.vx_sink.specs.contracts.list_source.ListSourceFallible.TheImpl as faults
 use Rattle.vx_column_ways.specs.Ways.{columns_in}
-use Rattle.vx_write.specs.ColumnCount.{columns_of}
+use Rattle.vx_column_ways.specs.ColumnCount.{columns_of}
 use Rattle.vx_column_inputs.specs.Prepared.{ArePrepared, SplitStops}
 use Rattle.vx_column_inputs.proofs.Answering.{none_given, no_room}
 use Rattle.vx_column_inputs.proofs.inputs.prepared.Goals as goal

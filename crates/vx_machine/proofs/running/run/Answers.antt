@@ -20,7 +20,8 @@ use Rattle.vx_machine.specs.Run.{at, Ran, picked_at, tracker_by}
 use Rattle.vx_machine.specs.View.{phase_of, machine_of}
 use Rattle.vx_machine.specs.Whole.{machine_ready}
 use Rattle.vx_machine.proofs.HeldViews.{exact_then}
-use Rattle.vx_machine.proofs.RunCalls.{Answered, none_called, then_answered, reads_once, appends_once, calls_once, reads_more, appends_more, calls_more, ended, source_ends, sink_ends, press_ends, misfit_passed}
+use Rattle.vx_fault.proofs.Answering.{Answered, none_called, ended}
+use Rattle.vx_machine.proofs.RunCalls.{then_answered, reads_once, appends_once, calls_once, reads_more, appends_more, calls_more, source_ends, sink_ends, press_ends, misfit_passed}
 use Rattle.vx_machine.proofs.RunSteps.{ready_held, run_grows, run_step, run_refused, reads_same}
 use Rattle.vx_machine.proofs.running.run.Goals as goal
 

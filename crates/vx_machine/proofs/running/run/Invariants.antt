@@ -6,7 +6,7 @@ use Rattle.vx_machine.specs.View.{machine_of}
 use Rattle.vx_sink.specs.ContextView.{counted}
 use Rattle.vx_machine_node.specs.Ledger.{told_by}
 use Rattle.vx_machine.specs.Whole.{machine_stock, machine_reserved}
-use Rattle.vx_machine.proofs.RunCalls.{Answered}
+use Rattle.vx_fault.proofs.Answering.{Answered}
 use Rattle.vx_machine.proofs.running.run.Given as goal
 
 abbrev pub invariant-steps : goal.invariant-steps

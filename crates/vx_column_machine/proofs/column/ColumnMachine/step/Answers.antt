@@ -7,8 +7,8 @@ use Rattle.vx_sequence.specs.Universe.{Active}
 use Rattle.vx_sink.specs.ContextView.{counted}
 use Rattle.vx_desk.specs.DeskView.{universe_of, written_of, kept_of, segments_in}
 use Rattle.vx_moved_plans.specs.Moved.{at_column}
-use Rattle.vx_machine_tasks.specs.Pairs.{task_pairs}
-use Rattle.vx_machine_tasks.proofs.PairSteps.{all_may}
+use Rattle.vx_machine.specs.Pairs.{task_pairs}
+use Rattle.vx_machine.proofs.PairSteps.{all_may}
 use Rattle.vx_machine_node.specs.Context.{setting_of}
 use Rattle.vx_machine.specs.declared.machine.Machine.{Machine}
 use Rattle.vx_machine.specs.Calls.{reads_at}

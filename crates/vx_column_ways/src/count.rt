@@ -3,7 +3,7 @@
 ghost use Rattle.std.specs.Prelude.{◌≡◌};
 ghost use Rattle.vx_model.specs.TyView.{ty};
 ghost use Rattle.vx_strategy.specs.StrategyView.{strategy_data};
-ghost use Rattle.vx_write.specs.ColumnCount.{column_count, columns_of};
+ghost use Rattle.vx_column_ways.specs.ColumnCount.{column_count, columns_of};
 
 use vx_model::DType;
 use vx_strategy::Strategy;
