@@ -83,10 +83,11 @@ fn job_text(alloc: Global, size: Size) -> Result<String> {
 }
 
 fn by_machine(rt: &HostRuntime, alloc: Global, job: Job) -> Result<Written> {
+    let faults = job.faults;
     let mut ctx = LayoutWriterContext::new(job.encodings);
-    let mut source = ListSource::new(job.schema, job.batches, job.faults.source);
-    let mut sink = MemorySink::new(job.next, job.faults.sink);
-    let mut compressor = TableCompressor::new(job.faults.compress);
+    let mut source = ListSource::new(job.schema, job.batches, faults.source);
+    let mut sink = MemorySink::new(job.next, faults.sink);
+    let mut compressor = TableCompressor::new(faults.compress);
     let start = Instant::now(rt)?;
     let written = write_stream(
         alloc,
@@ -122,9 +123,10 @@ fn by_columns(rt: &HostRuntime, alloc: Global, job: Job) -> Result<Written> {
     };
     ensure!(columns > 0, "no column");
     ensure!(columns == compressors.len() as u64, "other columns");
+    let faults = job.faults;
     let mut ctx = LayoutWriterContext::new(job.encodings);
-    let mut source = ListSource::new(job.schema, job.batches, job.faults.source);
-    let sink = MemorySink::new(job.next, job.faults.sink);
+    let mut source = ListSource::new(job.schema, job.batches, faults.source);
+    let sink = MemorySink::new(job.next, faults.sink);
     let start = Instant::now(rt)?;
     let written = write_columns(
         rt,

@@ -1,6 +1,6 @@
 //! The command that writes column by column.
 
-use crate::fixtures::{COMPRESSED, PLAIN};
+use crate::columns_jobs::{COMPRESSED, PLAIN};
 use crate::meeting::Meeting;
 use std::alloc::Global;
 use std::process::Abort;

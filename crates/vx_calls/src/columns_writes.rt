@@ -1,6 +1,8 @@
 //! Writes by columns, against the writes by one machine.
 
-use crate::fixtures::{COMPRESSED, PLAIN, job_of};
+ghost use Rattle.std.specs.Prelude.{◌≡◌, vec_len, IfOk};
+
+use crate::columns_jobs::{COMPRESSED, PLAIN, job_of};
 use crate::meeting::Meeting;
 use std::alloc::Global;
 use std::process::Abort;
@@ -27,10 +29,11 @@ fn text_of(alloc: Global, layout: &Layout) -> Result<Text, Fail> {
 
 /// By one machine.
 fn streamed(alloc: Global, job: Job) -> Result<Outcome, Fail> {
+    let faults = job.faults;
     let mut ctx = LayoutWriterContext::new(job.encodings);
-    let mut source = ListSource::new(job.schema, job.batches, job.faults.source);
-    let mut sink = MemorySink::new(job.next, job.faults.sink);
-    let mut compressor = TableCompressor::new(job.faults.compress);
+    let mut source = ListSource::new(job.schema, job.batches, faults.source);
+    let mut sink = MemorySink::new(job.next, faults.sink);
+    let mut compressor = TableCompressor::new(faults.compress);
     let written = write_stream(
         alloc,
         &job.strategy,
@@ -40,9 +43,21 @@ fn streamed(alloc: Global, job: Job) -> Result<Outcome, Fail> {
         &job.schedule,
         &mut compressor,
     );
+    let told = match written {
+        Ok(written) => told_of(alloc, Ok(written.layout))?,
+        Err(refused) => Err(refused.error),
+    };
+    Ok((told, sink.into_segments()))
+}
+
+/// The layout's text, or the error.
+fn told_of(
+    alloc: Global,
+    written: Result<Layout, WriteError>,
+) -> Result<Result<Text, WriteError>, Fail> {
     match written {
-        Ok(written) => Ok((Ok(text_of(alloc, &written.layout)?), sink.into_segments())),
-        Err(refused) => Ok((Err(refused.error), sink.into_segments())),
+        Ok(layout) => Ok(Ok(text_of(alloc, &layout)?)),
+        Err(error) => Ok(Err(error)),
     }
 }
 
@@ -57,13 +72,11 @@ fn by_columns<G: Gate + Sync, R: Threads + Wait + Sync>(
     let Some(2) = column_count(&job.strategy, &job.schema) else {
         return Err("a job of two columns".into());
     };
+    let compressors = two_compressors(alloc)?;
+    let faults = job.faults;
     let mut ctx = LayoutWriterContext::new(job.encodings);
-    let mut source = ListSource::new(job.schema, job.batches, job.faults.source);
+    let mut source = ListSource::new(job.schema, job.batches, faults.source);
     let sink = MemorySink::new(job.next, fail);
-    let compressors = vec![in alloc;
-        TableCompressor::new(Vec::new(alloc)),
-        TableCompressor::new(Vec::new(alloc)),
-    ]?;
     let written = write_columns(
         rt,
         alloc,
@@ -74,12 +87,19 @@ fn by_columns<G: Gate + Sync, R: Threads + Wait + Sync>(
         compressors,
         gate,
     );
-    match written {
-        Ok((layout, sink, _compressors)) => {
-            Ok((Ok(text_of(alloc, &layout)?), sink.into_segments()))
-        }
-        Err((error, sink, _compressors)) => Ok((Err(error), sink.into_segments())),
-    }
+    let (told, sink) = match written {
+        Ok((layout, sink, _compressors)) => (Ok(layout), sink),
+        Err((error, sink, _compressors)) => (Err(error), sink),
+    };
+    Ok((told_of(alloc, told)?, sink.into_segments()))
+}
+
+fn two_compressors(alloc: Global) -> Result<Vec<TableCompressor>, Fail>
+    ensures { IfOk result (λ v. vec_len v ≡ 2) }
+{
+    let first = TableCompressor::new(Vec::new(alloc));
+    let second = TableCompressor::new(Vec::new(alloc));
+    Ok(vec![in alloc; first, second]?)
 }
 
 fn is_text(found: &Result<Text, WriteError>, wanted: &str) -> bool {
