@@ -90,5 +90,6 @@ fn commands_beside_each_other(rt: HostRuntime) -> Result<(), Fail> {
     let seen = gate.into_seen();
     assert!(rt; seen.first_saw);
     assert!(rt; seen.second_saw);
+    assert!(rt; !seen.gave_up);
     Ok(())
 }

@@ -4,16 +4,17 @@ use std::sync::{Mutex, Wait};
 use std::thread;
 use vx_gate::Gate;
 
-/// Which columns have come to the gate, and which of them saw the other.
+/// Which columns have come to the gate, which of them saw the other, and whether one gave up waiting for it.
 #[derive(Drop, Clone, Copy, Debug, PartialEq, Eq)]
 pub(crate) struct Seen {
     pub first_came: bool,
     pub second_came: bool,
     pub first_saw: bool,
     pub second_saw: bool,
+    pub gave_up: bool,
 }
 
-/// Lets no column's first call pass until the other's has begun, or until it has looked so many times.
+/// Lets no column's call pass until a call of the other has begun. After so many looks it gives up, and remembers that.
 #[derive(Drop)]
 pub(crate) struct Meeting<'a, R: Wait> {
     pub seen: Mutex<Seen>,
@@ -29,6 +30,7 @@ impl<'a, R: Wait> Meeting<'a, R> {
                 second_came: false,
                 first_saw: false,
                 second_saw: false,
+                gave_up: false,
             }),
             looks,
             rt,
@@ -42,6 +44,11 @@ impl<'a, R: Wait> Meeting<'a, R> {
             rt: _,
         } = self;
         seen.into_inner()
+    }
+
+    fn give_up(&self) {
+        let mut seen = self.seen.lock(self.rt);
+        seen.gave_up = true;
     }
 
     /// Comes, and tells whether the other has.
@@ -71,5 +78,6 @@ impl<R: Wait> Gate for Meeting<'_, R> {
             }
             thread::yield_now();
         }
+        self.give_up();
     }
 }

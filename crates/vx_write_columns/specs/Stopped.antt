@@ -18,7 +18,7 @@ use Rattle.vx_write_answer.specs.Causes.{is_source_fault}
 use Rattle.vx_write.specs.Written.{HasCause}
 use Rattle.vx_column_inputs.specs.Reading.{SourceTold}
 
--- a segment's number that doesn't fit 32 bits: some segment of the plan would have it
+-- a number that doesn't fit 32 bits, and is below the first number and as many as the plan has segments
 abbrev pub IsNumberPast : ℕ → Plan → ℕ → Type 0
 IsNumberPast first p n = (2 ^ 32 ≤ n) × (n < first + length p.pairs)
 
@@ -93,7 +93,7 @@ AllCalm faults [] [] = Unit {0}
 AllCalm faults (b ∷ bs) (n ∷ ns) = IsCalm (faults b) (faults n) × AllCalm faults bs ns
 AllCalm faults bs ns = ⊥
 
--- none of them did
+-- no count of theirs changed
 abbrev pub AllKept : {C : Type 0} → (C → ℕ) → List C → List C → Type 0
 AllKept faults before now = map faults now ≡ map faults before
 

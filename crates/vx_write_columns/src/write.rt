@@ -54,6 +54,7 @@ use vx_write_answer::WriteError;
 ///
 /// Sink and compressors are handed back, the compressors in order. Where columns are refused, the error is that of the first,
 /// in order, that ended the write. A worker waits where another column has the smaller path; the call returns where all do.
+/// Where no thread can be made, a column runs behind the others.
 pub fn write_columns<
     B: BatchSource,
     S: SegmentSink + Send,
@@ -96,7 +97,7 @@ pub fn write_columns<
     ensures complete { (xs : List ChunkData) → B.to_come source.old ≡ Some xs
         → Valid (setting_of ctx.old (C.image (kind_of (map C.kind compressors.items)))) (strategy_data strategy.now) (B.kind source.old) (is_marked ctx.old) (S.next sink) 0 xs
         → IsCalm (B.faults source.old) (B.faults source.new) → IfErr result (λ r. IsCalm (S.faults sink) (S.faults r.1) → AllCalm C.faults compressors.items r.2.items → r.0 ≡ OutOfMemory) }
-    // Ok or refused, nothing is held back any more, and what is handed back is what was given.
+    // Ok or refused, nothing is held back any more; the sink comes back as the same borrow, and a compressor for each, of its kind.
     ensures same { SameContext ctx.old ctx.new × (B.kind source.new ≡ B.kind source.old) }
     ensures back { IfOk result (λ r. IsBack S.borrow C.kind sink r.1 compressors.items r.2.items) }
     ensures back_refused { IfErr result (λ r. IsBack S.borrow C.kind sink r.1 compressors.items r.2.items) }
