@@ -128,7 +128,7 @@ module _ (s : Setting) (w : StrategyData) (t : Ty) (m : Bool) (passes : List Chu
   }
 
   -- before the source is asked
-  unasked : (n : ℕ) → n < answers_in [] false → ⊥
+  unasked : (n : ℕ) → n < answers_in {A = ChunkData} [] false → ⊥
   unasked n l = omega (arith, l)
 
   pub halted_unread : faults_now ≡ faults → to_come_now ≡ to_come → e ≡ OutOfMemory → ColumnsHalted s w t m passes first first faults faults_now may must to_come to_come_now before before e
