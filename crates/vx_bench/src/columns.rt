@@ -2,6 +2,8 @@
 
 use anyhow::{Result, bail, ensure};
 use std::alloc::Global;
+use std::sync::Wait;
+use std::thread::Threads;
 use std::time::Instant;
 use vx_gate::NoGate;
 use vx_job::{Job, read_job};
@@ -116,7 +118,12 @@ fn compressors(alloc: Global) -> Result<Vec<TableCompressor>> {
     Ok(compressors)
 }
 
-fn by_columns(rt: &HostRuntime, alloc: Global, job: Job) -> Result<Written> {
+fn by_columns<R: Threads + Wait + Sync>(
+    threads: &R,
+    rt: &HostRuntime,
+    alloc: Global,
+    job: Job,
+) -> Result<Written> {
     let compressors = compressors(alloc)?;
     let Some(columns) = column_count(&job.strategy, &job.schema) else {
         bail!("no columns");
@@ -129,7 +136,7 @@ fn by_columns(rt: &HostRuntime, alloc: Global, job: Job) -> Result<Written> {
     let sink = MemorySink::new(job.next, faults.sink);
     let start = Instant::now(rt)?;
     let written = write_columns(
-        rt,
+        threads,
         alloc,
         &job.strategy,
         &mut ctx,
@@ -157,7 +164,13 @@ fn are_same(a: &[Blob], b: &[Blob]) -> bool {
 }
 
 /// Writes it so many times in both ways, and prints the least milliseconds of each.
-pub(crate) fn print_columns(rt: &HostRuntime, size: Size, rounds: u64, timed: bool) -> Result<()> {
+pub(crate) fn print_columns<R: Threads + Wait + Sync>(
+    threads: &R,
+    rt: &HostRuntime,
+    size: Size,
+    rounds: u64,
+    timed: bool,
+) -> Result<()> {
     let alloc = rt.alloc();
     let text = job_text(alloc, size)?;
     let mut machine = u128::MAX;
@@ -166,7 +179,7 @@ pub(crate) fn print_columns(rt: &HostRuntime, size: Size, rounds: u64, timed: bo
     let mut same = true;
     for _round in 0..rounds {
         let one = by_machine(rt, alloc, job_of(alloc, &text)?)?;
-        let other = by_columns(rt, alloc, job_of(alloc, &text)?)?;
+        let other = by_columns(threads, rt, alloc, job_of(alloc, &text)?)?;
         machine = machine.min(one.nanos);
         columns = columns.min(other.nanos);
         segments = other.segments.len();

@@ -184,6 +184,6 @@ fn main(rt: HostRuntime) -> Result<()> {
     } else {
         (2, 4, 1)
     };
-    print_columns(&rt, Size { batches, rows }, times, timed.is_some())?;
+    print_columns(&rt, &rt, Size { batches, rows }, times, timed.is_some())?;
     Ok(())
 }
