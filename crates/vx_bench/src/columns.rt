@@ -9,6 +9,7 @@ use vx_gate::NoGate;
 use vx_job::{Job, read_job};
 use vx_model::Blob;
 use vx_sink::{LayoutWriterContext, ListSource, MemorySink};
+use vx_strategy::Strategy;
 use vx_table_compressor::TableCompressor;
 use vx_write::{column_count, write_stream};
 use vx_write_columns::write_columns;
@@ -89,23 +90,28 @@ fn by_machine(rt: &HostRuntime, alloc: Global, job: Job) -> Result<Written> {
     let mut ctx = LayoutWriterContext::new(job.encodings);
     let mut source = ListSource::new(job.schema, job.batches, faults.source);
     let mut sink = MemorySink::new(job.next, faults.sink);
-    let mut compressor = TableCompressor::new(faults.compress);
+    let nanos = stream(rt, alloc, &job.strategy, &mut ctx, &mut source, &mut sink)?;
+    Ok(Written {
+        segments: sink.into_segments(),
+        nanos,
+    })
+}
+
+/// Writes by one machine, which takes the first ready task, and tells how many nanoseconds that took.
+fn stream(
+    rt: &HostRuntime,
+    alloc: Global,
+    strategy: &Strategy,
+    ctx: &mut LayoutWriterContext,
+    source: &mut ListSource,
+    sink: &mut MemorySink,
+) -> Result<u128> {
+    let mut compressor = TableCompressor::new(Vec::new(alloc));
     let start = Instant::now(rt)?;
-    let written = write_stream(
-        alloc,
-        &job.strategy,
-        &mut ctx,
-        &mut source,
-        &mut sink,
-        &job.schedule,
-        &mut compressor,
-    );
+    let written = write_stream(alloc, strategy, ctx, source, sink, &[], &mut compressor);
     let nanos = start.elapsed(rt)?.as_nanos();
     match written {
-        Ok(_) => Ok(Written {
-            segments: sink.into_segments(),
-            nanos,
-        }),
+        Ok(_) => Ok(nanos),
         Err(refused) => Err(refused.error.into()),
     }
 }
