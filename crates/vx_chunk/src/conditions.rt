@@ -8,9 +8,7 @@ ghost use Rattle.vx_model.specs.ChunkData.{piece_type, cells as cells_in, is_sim
 ghost use Rattle.vx_chunk.specs.Conditions.{makes_dict as dict_of, makes_list as list_of, makes_struct as struct_of, are_of_type as all_of_type};
 
 use crate::node::{Chunk, Node};
-use vx_chunk_cells::{
-    are_flags, are_offsets, are_places, has_elements, is_code, is_code_type, is_dict_type,
-};
+use vx_chunk_cells::{are_flags, are_offsets, has_elements, is_code, is_code_type, is_dict_type};
 use vx_model::{DType, StructField};
 
 /// Whether each of the codes is below the number of values.
@@ -20,7 +18,7 @@ pub fn are_codes(codes: &Chunk, count: u64) -> bool
     ensures { result ≡ all_by (is_place count) (cells_in codes.now) }
 {
     match &codes.node {
-        Node::Plain { cells, .. } => are_places(cells, count),
+        Node::Plain { column, .. } => column.are_places(count),
         Node::Constant { cell, rows, .. } => *rows == 0 || is_code(cell, count),
         Node::Dict { .. } | Node::Chunked { .. } | Node::List { .. } => unreachable!(),
         Node::Struct { .. } | Node::Extension { .. } => unreachable!(),

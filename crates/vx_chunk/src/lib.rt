@@ -21,6 +21,7 @@ mod values;
 mod whole;
 
 pub use error::ChunkError;
+pub use flags::flag_chunk;
 pub use laws::{rows_follow_cells, sizes_add_up};
 pub use node::{Chunk, Node};
 pub use reads::all_sound;

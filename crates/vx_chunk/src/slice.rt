@@ -13,11 +13,12 @@ ghost use Rattle.vx_chunk.specs.Slice.{sliced, sliced_parts, sliced_each};
 use crate::error::ChunkError;
 use crate::node::{Chunk, Node};
 use std::alloc::{AllocError, Global};
-use vx_chunk_cells::{copy_cells, flags_between, offsets_between, rebase};
+use vx_chunk_cells::{flags_between, offsets_between, rebase};
 use vx_model::DType;
 
 impl Chunk {
-    /// Rows `from` to `to`, the last not included. Only what these rows need is copied, and the values of a dictionary.
+    /// Rows `from` to `to`, the last not included. Typed values are shared; else what these rows need
+    /// is copied, and the values of a dictionary.
     pub fn slice(&self, alloc: Global, from: u64, to: u64) -> Result<Chunk, ChunkError>
         requires order { from ≤ to }
         requires within { to ≤ length (cells_in self.now) }
@@ -51,9 +52,9 @@ fn cut_node(node: &Node, alloc: Global, from: u64, to: u64) -> Result<Node, Allo
     ensures { IfOk result (λ n. node_piece n ≡ sliced (node_piece node.now) from to) }
 {
     match node {
-        Node::Plain { dtype, cells } => Ok(Node::Plain {
+        Node::Plain { dtype, column } => Ok(Node::Plain {
             dtype: dtype.clone()?,
-            cells: copy_cells(alloc, &cells[from as usize..to as usize])?,
+            column: column.slice(alloc, from, to)?,
         }),
         Node::Constant { dtype, cell, .. } => Ok(Node::Constant {
             cell: cell.clone()?,

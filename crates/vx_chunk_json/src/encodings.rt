@@ -24,7 +24,7 @@ pub(crate) fn read_plain(alloc: Global, dtype: &DType, values: &[Value]) -> Resu
     ensures { Gives (λ c. c) result (plain_of (ty dtype.now) (each (cell_of (ty dtype.now)) (items_view values.now))) }
 {
     let cells = read_cells(alloc, dtype, values)?;
-    Ok(Chunk::plain(dtype.clone()?, cells))
+    Ok(Chunk::typed(alloc, dtype.clone()?, cells)?)
 }
 
 #[tactic(auto, using(crate::proofs::ChunkFits::fit_rules), unfolding(crate::specs::Chunks::constant_of))]

@@ -1,3 +1,4 @@
 pub mod CellCode
 pub mod Typed
 pub mod StringCells
+pub mod Lent

@@ -1,17 +1,20 @@
 //! Columns of texts and of bytes.
 
-ghost use Rattle.std.specs.Prelude.{◌≡◌, ◌≤◌, ◌<◌, ◌-◌, ◌++◌, true, false, length, take, drop, map, slice_index_or, IsTrue, IfOk, IfSome, IfNone, OnOk};
+ghost use Rattle.std.specs.Prelude.{◌≡◌, ◌≤◌, ◌<◌, ◌-◌, ◌++◌, true, false, length, take, drop, map, slice_index_or, IsTrue, IfOk, IfSome, IfNone, OnOk, MatchResult};
 ghost use Rattle.vx_model.specs.Words.{joined_by, all_by, total_by};
 ghost use Rattle.vx_model.specs.CellData.{text_spelling, fits, null_cell};
 ghost use Rattle.vx_model.specs.TreeView.{tree};
 ghost use Rattle.vx_layout_spec.specs.Real.{is_real_cell};
 ghost use Rattle.vx_typed.specs.Typed.{typed_cells, strings_between, is_string};
 ghost use Rattle.vx_typed.specs.StringCells.{string_cell, string_type, string_length, AreStrings};
+ghost use Rattle.vx_typed.specs.Lent.{lent_cell};
 
-use crate::flags::Flags;
-use crate::kind::StringKind;
+use crate::flags::{Flags, needed};
+use crate::kind::{StringKind, is_same};
+use crate::lent::Lent;
 use crate::shared::Shared;
-use crate::strings_read::{are_strings, cell_at, push_cells, strings_in, total_len};
+use crate::strings_joined::join;
+use crate::strings_read::{are_strings, cell_at, lent_at, push_cells, strings_in, total_len};
 use crate::strings_written::{push_strings, room};
 use std::alloc::{AllocError, Global};
 use std::marker::Model;
@@ -44,8 +47,9 @@ impl Model for Strings {
 }
 
 impl Strings {
-    /// The strings between the offsets, of which those are invalid whose flags are false. All vectors are moved.
-    #[tactic(auto, using(crate::proofs::StringSteps::model_rules))]
+    /// The strings between the offsets, of which those are invalid whose flags are false. The vectors are moved, that of
+    /// the flags where one is false.
+    #[tactic(auto, using(crate::proofs::Joins::string_rules))]
     pub fn new(
         alloc: Global,
         kind: StringKind,
@@ -58,7 +62,7 @@ impl Strings {
     {
         let bytes = Shared::new(alloc, bytes)?;
         let offsets = Shared::new(alloc, offsets)?;
-        let valid = Flags::new(alloc, flags)?;
+        let valid = Flags::new(alloc, needed(flags))?;
         Ok(Strings {
             kind,
             bytes,
@@ -121,6 +125,47 @@ impl Strings {
     {
         let (bytes, offsets) = (self.bytes.as_slice(), self.offsets.as_slice());
         cell_at(alloc, self.kind, bytes, offsets, self.valid.as_slice(), row)
+    }
+
+    /// The cell of a row, lent.
+    #[tactic(auto, using(crate::proofs::StringSteps::model_rules))]
+    pub fn row(&self, row: usize) -> Lent<'_>
+        requires { row < length self.now }
+        ensures { lent_cell result ≡ slice_index_or self.now row null_cell }
+    {
+        let (bytes, offsets) = (self.bytes.as_slice(), self.offsets.as_slice());
+        lent_at(self.kind, bytes, offsets, self.valid.as_slice(), row)
+    }
+
+    /// These strings, and the others behind them: in the same memory where nothing else shares it. Where the others are
+    /// of another kind, the strings as they are.
+    #[tactic(auto, using(crate::proofs::Joins::string_rules))]
+    pub fn append(
+        self,
+        alloc: Global,
+        others: &Strings,
+    ) -> Result<Result<Strings, Strings>, AllocError>
+        ensures { IfOk result (λ r. MatchResult r (λ c. c ≡ self ++ others.now) (λ c. c ≡ self)) }
+    {
+        if !is_same(self.kind, others.kind) {
+            return Ok(Err(self));
+        }
+        let Strings {
+            kind,
+            bytes,
+            offsets,
+            valid,
+        } = self;
+        let rows = offsets.as_slice().len() - 1;
+        let (strings, places) = (others.bytes.as_slice(), others.offsets.as_slice());
+        let valid = valid.append(alloc, rows, others.valid.as_slice(), places.len() - 1)?;
+        let (bytes, offsets) = join(alloc, kind, bytes, offsets, strings, places)?;
+        Ok(Ok(Strings {
+            kind,
+            bytes,
+            offsets,
+            valid,
+        }))
     }
 
     /// Rows `from` to `to`, the last not included, in the same memory.

@@ -8,8 +8,10 @@ ghost use Rattle.vx_model.specs.TreeView.{tree};
 ghost use Rattle.vx_layout_spec.specs.Real.{is_real_cell};
 ghost use Rattle.vx_typed.specs.Typed.{typed_cells, strings_between, is_string};
 ghost use Rattle.vx_typed.specs.StringCells.{string_cell, string_type, string_length, may_be, AreStrings};
+ghost use Rattle.vx_typed.specs.Lent.{lent_cell};
 
 use crate::kind::StringKind;
+use crate::lent::Lent;
 use std::alloc::{AllocError, Global};
 use vx_chunk_cells::flag_at;
 use vx_model::{Blob, Cell, Text};
@@ -98,6 +100,39 @@ pub(crate) fn cell_at(
         return Ok(Cell::Null);
     }
     cell_of(alloc, kind, string_at(kind, bytes, offsets, row))
+}
+
+/// The cell of a string, lent.
+#[tactic(auto, using(crate::proofs::StringSteps::text_rules))]
+fn lent_of(kind: StringKind, string: &[u8]) -> Lent<'_>
+    requires { IsTrue (may_be kind string.now) }
+    ensures { lent_cell result ≡ string_cell kind string.now }
+{
+    match kind {
+        StringKind::Binary => Lent::Binary(string),
+        StringKind::Utf8 => match str::from_utf8(string) {
+            Ok(text) => Lent::Utf8(text),
+            Err(_) => unreachable!(),
+        },
+    }
+}
+
+#[tactic(auto, using(crate::proofs::StringSteps::row_rules))]
+pub(crate) fn lent_at<'a>(
+    kind: StringKind,
+    bytes: &'a [u8],
+    offsets: &[u64],
+    valid: &[bool],
+    row: usize,
+) -> Lent<'a>
+    requires strings { AreStrings kind bytes.now offsets.now }
+    requires row { row < length (strings_between bytes.now offsets.now) }
+    ensures { lent_cell result ≡ (if head_or true (drop row valid.now) then string_cell kind (slice_index_or (strings_between bytes.now offsets.now) row []) else null_cell) }
+{
+    if !flag_at(valid, row) {
+        return Lent::Null;
+    }
+    lent_of(kind, string_at(kind, bytes, offsets, row))
 }
 
 /// The cells of strings with their flags, behind what was there.

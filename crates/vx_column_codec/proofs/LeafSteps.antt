@@ -1,0 +1,47 @@
+-- Values that are read from their bytes.
+use Rattle.std.proofs.Common.{◌≡◌, ℕ, ◌-◌, ◌+◌, ◌<◌, ◌≤◌, Bool, true, false, List, [], ◌∷◌, ◌++◌, length, Option, Some, None, refl, sym, ap, ◌∙◌, arith}
+use Rattle.std.specs.Prelude.{if◌then◌else◌, option_map, ◌==◌}
+use Rattle.std.proofs.lemmas.List.{append-nil, nil_from_length}
+use Rattle.vx_model.specs.declared.ptype.PType.{PType}
+use Rattle.vx_model.specs.Numbers.{ptype_bytes}
+use Rattle.vx_model.specs.Ty.{boolean, primitive}
+use Rattle.vx_model.specs.CellData.{CellData, null_cell, bool_cell, int_cell}
+use Rattle.vx_byte_reader.specs.Fields.{◌>>=◌, front_at, flag_at, many_at}
+use Rattle.vx_byte_reader.proofs.FieldLoops.{with_front, many_goes_on, many_done}
+use Rattle.vx_cell_codec.specs.Reading.{int_from, int_at, valid_at, leaf_at, cell_at}
+use Rattle.vx_typed.specs.Typed.{typed_cells}
+use Rattle.vx_typed.proofs.Steps.{typed_push}
+
+int_of_front : (p : PType) (bytes : List ℕ) → cell_at (primitive p false) bytes ≡ (front_at (ptype_bytes p) bytes >>= λ f. Some (int_cell (int_from p f.0), f.1))
+unfolding leaf_at valid_at int_at
+int_of_front p bytes = by (front_at (ptype_bytes p) bytes)
+  where
+    by : (o : Option (List ℕ × List ℕ)) → ((o >>= λ f. Some (int_from p f.0, f.1)) >>= λ x. Some (int_cell x.0, x.1)) ≡ (o >>= λ f. Some (int_cell (int_from p f.0), f.1))
+    by None = refl
+    by (Some f) = refl
+
+pub int_none : (p : PType) (bytes : List ℕ) → front_at (ptype_bytes p) bytes ≡ None → cell_at (primitive p false) bytes ≡ None
+int_none p bytes e = int_of_front p bytes ∙ ap (λ (o : Option (List ℕ × List ℕ)). o >>= λ f. Some (int_cell (int_from p f.0), f.1)) e
+
+pub int_some : (p : PType) (bytes front rest : List ℕ) → front_at (ptype_bytes p) bytes ≡ Some (front, rest) → cell_at (primitive p false) bytes ≡ Some (int_cell (int_from p front), rest)
+int_some p bytes front rest e = int_of_front p bytes ∙ ap (λ (o : Option (List ℕ × List ℕ)). o >>= λ f. Some (int_cell (int_from p f.0), f.1)) e
+
+pub bool_of_flag : (bytes : List ℕ) → cell_at (boolean false) bytes ≡ (flag_at bytes >>= λ x. Some (bool_cell x.0, x.1))
+unfolding leaf_at valid_at
+bool_of_flag bytes = refl
+
+-- what is found, seen in other words
+pub seen_as : {A R X : Type 0} (f : A → X) (g : R → List ℕ) (o : Option (A × R)) (read : Option (A × List ℕ)) → option_map (λ x. (x.0, g x.1)) o ≡ read → option_map (λ x. (f x.0, g x.1)) o ≡ (read >>= λ x. Some (f x.0, x.1))
+seen_as f g None read e = ap (λ r. r >>= λ x. Some (f x.0, x.1)) e
+seen_as f g (Some x) read e = ap (λ r. r >>= λ y. Some (f y.0, y.1)) e
+
+-- one value more
+pub all_push : {X : Type 0} (f : X → CellData) (xs : List X) (x : X) → typed_cells f (xs ++ x ∷ []) [] ≡ typed_cells f xs [] ++ f x ∷ []
+all_push f [] x = refl
+all_push f (y ∷ xs) x = ap (λ (r : List CellData). f y ∷ r) (all_push f xs x)
+
+pub ruleset bool_rules = (bool_of_flag)
+
+pub ruleset int_rules = (int_none, int_some)
+
+pub ruleset fill_rules = (nil_from_length)

@@ -1,0 +1,10 @@
+use Rattle.std.proofs.Common.{◌≡◌, ◌++◌, drop}
+use Rattle.vx_typed.specs.Typed.{strings_between}
+use Rattle.vx_typed.specs.StringCells.{Grown}
+use Rattle.vx_typed.proofs.strings_joined.push_strings.Given as goal
+
+abbrev pub invariant-loop-row : goal.invariant-loop-row
+invariant-loop-row l = record {
+  joined : strings_between l.bytes.items l.offsets.items ++ drop l.row (strings_between l.strings l.places) ≡ strings_between l.fn.bytes.items l.fn.offsets.items ++ strings_between l.strings l.places;
+  grown : Grown l.kind l.bytes.items l.offsets.items;
+}
