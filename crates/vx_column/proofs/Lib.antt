@@ -1,5 +1,5 @@
 pub mod Steps
 pub mod Flat
 pub mod SizeLaws
-pub mod Joined
+pub mod JoinSteps
 pub mod Lents

@@ -13,7 +13,7 @@ use vx_typed::Strings;
 impl Column {
     /// These rows, and the others behind them. Typed values of one type stay in the same memory where nothing else
     /// shares it; those of two types become cells. Where one has no rows, the other as it is.
-    #[tactic(auto, using(crate::proofs::Joined::join_rules))]
+    #[tactic(auto, using(crate::proofs::JoinSteps::join_rules))]
     pub fn append(self, alloc: Global, others: Column) -> Result<Column, AllocError>
         ensures { IfOk result (λ c. column_cells c ≡ column_cells self ++ column_cells others) }
     {
@@ -33,7 +33,7 @@ impl Column {
     }
 
     /// The rows before a place, and those from it on: typed values in the same memory, cells moved.
-    #[tactic(auto, using(crate::proofs::Joined::split_rules))]
+    #[tactic(auto, using(crate::proofs::JoinSteps::split_rules))]
     pub fn split(self, alloc: Global, at: u64) -> Result<(Column, Column), AllocError>
         requires { at ≤ length (column_cells self) }
         ensures front { IfOk result (λ r. column_cells r.0 ≡ take at (column_cells self)) }
@@ -98,7 +98,7 @@ fn behind(column: Column, alloc: Global, others: Column) -> Result<Column, Alloc
     }
 }
 
-#[tactic(auto, using(crate::proofs::Joined::join_rules))]
+#[tactic(auto, using(crate::proofs::JoinSteps::join_rules))]
 fn cells_then(mut cells: Vec<Cell>, others: Column) -> Result<Column, AllocError>
     ensures { IfOk result (λ c. column_cells c ≡ map tree cells.items ++ column_cells others) }
 {
@@ -116,7 +116,7 @@ fn cells_then(mut cells: Vec<Cell>, others: Column) -> Result<Column, AllocError
 }
 
 /// The cells before a place, and those from it on, which use at least half of their room.
-#[tactic(auto, using(crate::proofs::Joined::split_rules))]
+#[tactic(auto, using(crate::proofs::JoinSteps::split_rules))]
 fn split_cells(mut cells: Vec<Cell>, at: usize) -> Result<(Vec<Cell>, Vec<Cell>), AllocError>
     requires { at ≤ length cells.items }
     ensures front { IfOk result (λ r. r.0.items ≡ take at cells.items) }

@@ -13,7 +13,6 @@ use Rattle.vx_chunk_cells.proofs.OffsetLaws.{offsets_within}
 use Rattle.vx_typed.specs.declared.kind.StringKind.{StringKind}
 use Rattle.vx_typed.specs.Typed.{typed_cells, exact_flags, joined_flags, needed_flags, strings_between}
 use Rattle.vx_typed.specs.StringCells.{string_cell, may_be, AreStrings, Grown}
-use Rattle.vx_typed.proofs.Steps.{typed_length}
 use Rattle.vx_typed.proofs.StringSteps.{strings_length, some_string, grown_none}
 
 -- ---- flags
@@ -151,11 +150,36 @@ front_grown kind bytes os cut h e =
       ended = sym long;
     }
 
+-- where the last string ends, told by the offsets that are looked at
+pub last_within : (kind : StringKind) (bytes os places : List ℕ) → AreStrings kind bytes os → places ≡ os → get_or places (length places - 1) 0 ≤ length bytes
+last_within kind bytes os places h same = rw (same, last_at os (some_string kind bytes os h)) (offsets_within (length bytes) os h.ascend).1
+
+pub front_kept : (kind : StringKind) (bytes os places cut kept : List ℕ) → AreStrings kind bytes os → places ≡ os → cut ≡ take (get_or places (length places - 1) 0) bytes → kept ≡ os → Grown kind cut kept
+front_kept kind bytes os places cut kept h same e is =
+    let last : get_or places (length places - 1) 0 ≡ last_of os = ap (λ (r : List ℕ). get_or r (length r - 1) 0) same ∙ last_at os (some_string kind bytes os h) in
+    rw is (front_grown kind bytes os cut h (e ∙ ap (λ (n : ℕ). take n bytes) last))
+
 -- one string more of those that come behind
 pub pushed_next : (done all more : List (List ℕ)) (i : ℕ) (s : List ℕ) (next : List (List ℕ)) → i < length more → s ≡ get_or more i [] → next ≡ done ++ s ∷ [] → done ++ drop i more ≡ all → next ++ drop (i + 1) more ≡ all
 pushed_next done all more i s next lt is e h =
     ap (λ (r : List (List ℕ)). r ++ drop (i + 1) more) e ∙ append_assoc done (s ∷ []) (drop (i + 1) more)
     ∙ ap (λ (r : List (List ℕ)). done ++ r) (ap (λ (x : List ℕ). x ∷ drop (i + 1) more) is ∙ sym (drop_more more i [] lt)) ∙ h
+
+-- all of them
+pub pushed_all : (done all more : List (List ℕ)) (i : ℕ) → length more ≤ i → done ++ drop i more ≡ all → done ≡ all
+pushed_all done all more i le h = sym (append-nil done) ∙ ap (λ (r : List (List ℕ)). done ++ r) (sym (drop_all i more le)) ∙ h
+
+-- the strings and the flags of both, where the others are looked at
+pub strings_joined : (kind other : StringKind) (xb xo yb yo zb zo ys ps : List ℕ) (bs cs ds es : List Bool) (n m : ℕ) (first second : List CellData)
+    → kind ≡ other → ys ≡ yb → ps ≡ yo → es ≡ cs
+    → strings_between zb zo ≡ strings_between xb xo ++ strings_between ys ps → ds ≡ joined_flags n bs m es → n ≡ length xo - 1 → m ≡ length ps - 1
+    → typed_cells (string_cell kind) (strings_between xb xo) bs ≡ first → typed_cells (string_cell other) (strings_between yb yo) cs ≡ second → typed_cells (string_cell kind) (strings_between zb zo) ds ≡ first ++ second
+strings_joined kind other xb xo yb yo zb zo ys ps bs cs ds es n m first second same ys_is ps_is es_is values flags long more one two =
+    let behind : typed_cells (string_cell kind) (strings_between ys ps) es ≡ second =
+    ap (λ (k : StringKind). typed_cells (string_cell k) (strings_between ys ps) es) same
+    ∙ ap₂ (λ (ss : List (List ℕ)) (r : List Bool). typed_cells (string_cell other) ss r) (ap₂ strings_between ys_is ps_is) es_is ∙ two in
+    joined_cells (string_cell kind) (strings_between xb xo) (strings_between ys ps) (strings_between zb zo) bs es ds n m first second values flags
+    (long ∙ sym (strings_length xb xo)) (more ∙ sym (strings_length ys ps)) one behind
 
 pub ruleset string_rules = (typed_needed, strings_length)
 

@@ -1,7 +1,7 @@
-use Rattle.std.proofs.Common.{◌≡◌, ◌<◌, [], ◌∷◌, ◌++◌, length, arith}
+use Rattle.std.proofs.Common.{◌≡◌, ◌<◌, ◌≤◌, [], ◌∷◌, ◌++◌, length, arith}
 use Rattle.vx_typed.specs.Typed.{strings_between}
 use Rattle.vx_typed.proofs.StringSteps.{strings_length, grown_more, grown_strings}
-use Rattle.vx_typed.proofs.Joins.{pushed_next}
+use Rattle.vx_typed.proofs.Joins.{pushed_next, pushed_all}
 use Rattle.vx_typed.proofs.strings_joined.push_strings.Goals as goal
 
 pub loop-row-preserved : goal.loop-row-preserved
@@ -14,3 +14,8 @@ loop-row-preserved c =
       joined = pushed_next _ _ (strings_between c.args.strings.now c.args.places.now) c.loop-row.row s _ lt c.string_at.ensures.bytes more c.loop-row.invariant.joined;
       grown = grown_more c.args.kind c.loop-row.bytes.items c.loop-row.offsets.items s c.push_string.new.bytes.items c.push_string.new.offsets.items c.loop-row.invariant.grown c.string_at.ensures.may_be c.in_ok-push_string.ensures.bytes c.in_ok-push_string.ensures.offsets;
     }
+
+pub returns-clause-joined : goal.returns-clause-joined
+returns-clause-joined c =
+    let le : length (strings_between c.args.strings.now c.args.places.now) ≤ c.loop-row.row = omega (arith, strings_length c.args.strings.now c.args.places.now, c.loop-row-test.false) in
+    pushed_all _ _ (strings_between c.args.strings.now c.args.places.now) c.loop-row.row le c.loop-row.invariant.joined
