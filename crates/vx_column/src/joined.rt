@@ -139,31 +139,3 @@ fn trimmed(mut cells: Vec<Cell>) -> Vec<Cell>
     }
     cells
 }
-
-/// The leaves of the same type behind each other; else the first as they are.
-macro_rules! append_each {
-    ($first:expr, $alloc:expr, $second:expr, $($form:ident),+) => {
-        match $first {
-            $(AnyLeaves::$form(first) => match $second {
-                AnyLeaves::$form(second) => Ok(Ok(AnyLeaves::$form(first.append($alloc, second)?))),
-                _ => Ok(Err(AnyLeaves::$form(first))),
-            },)+
-        }
-    };
-}
-
-impl AnyLeaves {
-    /// These values, and the others behind them, in the same memory where nothing else shares it. Where the others are of
-    /// another type, the values as they are.
-    pub fn append(
-        self,
-        alloc: Global,
-        others: &AnyLeaves,
-    ) -> Result<Result<AnyLeaves, AnyLeaves>, AllocError>
-        ensures { IfOk result (λ r. MatchResult r (λ c. leaf_cells c ≡ leaf_cells self ++ leaf_cells others.now) (λ c. leaf_cells c ≡ leaf_cells self)) }
-    {
-        append_each!(
-            self, alloc, others, Bool, U8, U16, U32, U64, I8, I16, I32, I64
-        )
-    }
-}

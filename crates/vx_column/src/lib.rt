@@ -5,6 +5,7 @@ mod cells;
 mod codes;
 mod column;
 mod joined;
+mod leaf_joins;
 mod leaves;
 mod parts;
 mod sizes;
