@@ -25,30 +25,21 @@ impl Column {
             drop(others);
             return Ok(self);
         }
-        match self {
-            Column::Leaves(leaves) => leaves_then(leaves, alloc, others),
-            Column::Strings(strings) => strings_then(strings, alloc, others),
-            Column::Cells(cells) => cells_then(cells, others),
-        }
+        rows_then(self, alloc, others)
     }
 
     /// The rows before a place, and those from it on: typed values in the same memory, cells moved.
-    #[tactic(auto, using(crate::proofs::JoinSteps::split_rules))]
     pub fn split(self, alloc: Global, at: u64) -> Result<(Column, Column), AllocError>
         requires { at ≤ length (column_cells self) }
         ensures front { IfOk result (λ r. column_cells r.0 ≡ take at (column_cells self)) }
         ensures back { IfOk result (λ r. column_cells r.1 ≡ drop at (column_cells self)) }
     {
         match self {
-            Column::Cells(cells) => {
-                let (front, back) = split_cells(cells, at as usize)?;
-                Ok((Column::Cells(front), Column::Cells(back)))
-            }
+            Column::Cells(cells) => cells_apart(cells, at as usize),
             other => {
-                let rows = other.len() as u64;
-                let front = other.slice(alloc, 0, at)?;
-                let back = other.slice(alloc, at, rows)?;
-                Ok((front, back))
+                let parts = slices(&other, alloc, at);
+                drop(other);
+                parts
             }
         }
     }
@@ -59,6 +50,16 @@ pub fn no_rows(alloc: Global) -> Column
     ensures { column_cells result ≡ [] }
 {
     Column::Cells(Vec::new(alloc))
+}
+
+fn rows_then(column: Column, alloc: Global, others: Column) -> Result<Column, AllocError>
+    ensures { IfOk result (λ c. column_cells c ≡ column_cells column ++ column_cells others) }
+{
+    match column {
+        Column::Leaves(leaves) => leaves_then(leaves, alloc, others),
+        Column::Strings(strings) => strings_then(strings, alloc, others),
+        Column::Cells(cells) => cells_then(cells, others),
+    }
 }
 
 fn leaves_then(leaves: AnyLeaves, alloc: Global, others: Column) -> Result<Column, AllocError>
@@ -113,6 +114,29 @@ fn cells_then(mut cells: Vec<Cell>, others: Column) -> Result<Column, AllocError
             Ok(Column::Cells(cells))
         }
     }
+}
+
+/// The rows before a place, and those from it on, as `slice` gives them.
+#[tactic(auto, using(crate::proofs::JoinSteps::split_rules))]
+fn slices(column: &Column, alloc: Global, at: u64) -> Result<(Column, Column), AllocError>
+    requires { at ≤ length (column_cells column.now) }
+    ensures front { IfOk result (λ r. column_cells r.0 ≡ take at (column_cells column.now)) }
+    ensures back { IfOk result (λ r. column_cells r.1 ≡ drop at (column_cells column.now)) }
+{
+    let front = column.slice(alloc, 0, at)?;
+    let back = column.slice(alloc, at, column.len() as u64)?;
+    Ok((front, back))
+}
+
+/// The same of cells, which are moved.
+#[tactic(auto, using(crate::proofs::JoinSteps::split_rules))]
+fn cells_apart(cells: Vec<Cell>, at: usize) -> Result<(Column, Column), AllocError>
+    requires { at ≤ length cells.items }
+    ensures front { IfOk result (λ r. column_cells r.0 ≡ take at (map tree cells.items)) }
+    ensures back { IfOk result (λ r. column_cells r.1 ≡ drop at (map tree cells.items)) }
+{
+    let (front, back) = split_cells(cells, at)?;
+    Ok((Column::Cells(front), Column::Cells(back)))
 }
 
 /// The cells before a place, and those from it on, which use at least half of their room.
