@@ -1,8 +1,6 @@
 -- Columns behind others, and columns cut in two.
 use Rattle.std.proofs.Common.{◌≡◌, ℕ, zero, suc, ◌-◌, List, length, take, drop, map, ◌++◌, refl, ap, ◌∙◌, arith, append_assoc, append-nil}
 use Rattle.std.proofs.lemmas.List.{length-map, map-append, take-map, drop-map, take_all, nil_from_length, take_rest}
-use Rattle.vx_model.specs.declared.cell.Cell.{Cell}
-use Rattle.vx_model.specs.TreeView.{tree}
 use Rattle.vx_chunk_cells.specs.Window.{window}
 
 pub window_front : {X : Type 0} (at : ℕ) (xs : List X) → window 0 at xs ≡ take at xs
