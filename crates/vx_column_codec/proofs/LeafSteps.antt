@@ -1,6 +1,6 @@
 -- Values that are read from their bytes.
 use Rattle.std.proofs.Common.{◌≡◌, ℕ, ◌-◌, ◌+◌, ◌<◌, ◌≤◌, Bool, true, false, List, [], ◌∷◌, ◌++◌, length, Option, Some, None, refl, sym, ap, ◌∙◌, arith}
-use Rattle.std.specs.Prelude.{if◌then◌else◌, option_map, ◌==◌}
+use Rattle.std.specs.Prelude.{if◌then◌else◌, option_map, ◌==◌, ℤ}
 use Rattle.std.proofs.lemmas.List.{append-nil, nil_from_length}
 use Rattle.vx_model.specs.declared.ptype.PType.{PType}
 use Rattle.vx_model.specs.Numbers.{ptype_bytes}
@@ -12,28 +12,34 @@ use Rattle.vx_cell_codec.specs.Reading.{int_from, int_at, valid_at, leaf_at, cel
 use Rattle.vx_typed.specs.Typed.{typed_cells}
 use Rattle.vx_typed.proofs.Steps.{typed_push}
 
-int_of_front : (p : PType) (bytes : List ℕ) → cell_at (primitive p false) bytes ≡ (front_at (ptype_bytes p) bytes >>= λ f. Some (int_cell (int_from p f.0), f.1))
+-- an integer of the bytes in front, and its cell
+abbrev read_int : PType → List ℕ × List ℕ → Option (ℤ × List ℕ)
+read_int p f = Some (int_from p f.0, f.1)
+
+abbrev as_int : ℤ × List ℕ → Option (CellData × List ℕ)
+as_int x = Some (int_cell x.0, x.1)
+
+abbrev in_front : PType → Option (List ℕ × List ℕ) → Option (CellData × List ℕ)
+in_front p None = None
+in_front p (Some f) = Some (int_cell (int_from p f.0), f.1)
+
+int_of_front : (p : PType) (bytes : List ℕ) → cell_at (primitive p false) bytes ≡ in_front p (front_at (ptype_bytes p) bytes)
 unfolding leaf_at valid_at int_at
 int_of_front p bytes = by (front_at (ptype_bytes p) bytes)
   where
-    by : (o : Option (List ℕ × List ℕ)) → ((o >>= λ f. Some (int_from p f.0, f.1)) >>= λ x. Some (int_cell x.0, x.1)) ≡ (o >>= λ f. Some (int_cell (int_from p f.0), f.1))
+    by : (o : Option (List ℕ × List ℕ)) → ((o >>= read_int p) >>= as_int) ≡ in_front p o
     by None = refl
     by (Some f) = refl
 
 pub int_none : (p : PType) (bytes : List ℕ) → front_at (ptype_bytes p) bytes ≡ None → cell_at (primitive p false) bytes ≡ None
-int_none p bytes e = int_of_front p bytes ∙ ap (λ (o : Option (List ℕ × List ℕ)). o >>= λ f. Some (int_cell (int_from p f.0), f.1)) e
+int_none p bytes e = int_of_front p bytes ∙ ap (in_front p) e
 
-pub int_some : (p : PType) (bytes front rest : List ℕ) → front_at (ptype_bytes p) bytes ≡ Some (front, rest) → cell_at (primitive p false) bytes ≡ Some (int_cell (int_from p front), rest)
-int_some p bytes front rest e = int_of_front p bytes ∙ ap (λ (o : Option (List ℕ × List ℕ)). o >>= λ f. Some (int_cell (int_from p f.0), f.1)) e
+pub int_some : (p : PType) (bytes front rest : List ℕ) (i : ℤ) → i ≡ int_from p front → Some (front, rest) ≡ front_at (ptype_bytes p) bytes → Some (int_cell i, rest) ≡ cell_at (primitive p false) bytes
+int_some p bytes front rest i e h = ap (λ (j : ℤ). as_int (j, rest)) e ∙ ap (in_front p) h ∙ sym (int_of_front p bytes)
 
 pub bool_of_flag : (bytes : List ℕ) → cell_at (boolean false) bytes ≡ (flag_at bytes >>= λ x. Some (bool_cell x.0, x.1))
 unfolding leaf_at valid_at
 bool_of_flag bytes = refl
-
--- what is found, seen in other words
-pub seen_as : {A R X : Type 0} (f : A → X) (g : R → List ℕ) (o : Option (A × R)) (read : Option (A × List ℕ)) → option_map (λ x. (x.0, g x.1)) o ≡ read → option_map (λ x. (f x.0, g x.1)) o ≡ (read >>= λ x. Some (f x.0, x.1))
-seen_as f g None read e = ap (λ r. r >>= λ x. Some (f x.0, x.1)) e
-seen_as f g (Some x) read e = ap (λ r. r >>= λ y. Some (f y.0, y.1)) e
 
 -- one value more
 pub all_push : {X : Type 0} (f : X → CellData) (xs : List X) (x : X) → typed_cells f (xs ++ x ∷ []) [] ≡ typed_cells f xs [] ++ f x ∷ []

@@ -1,10 +1,10 @@
 //! Values that are read from their bytes.
 
-ghost use Rattle.std.specs.Prelude.{◌≡◌, List, ℕ, true, false, option_map};
+ghost use Rattle.std.specs.Prelude.{◌≡◌, List, ℕ, true, false, length, option_map, pos};
 ghost use Rattle.vx_model.specs.declared.ptype.PType.TheVariants as types;
 ghost use Rattle.vx_model.specs.CellData.{bool_cell, int_cell};
 ghost use Rattle.vx_byte_reader.specs.Fields.{flag_at as one_flag};
-ghost use Rattle.vx_cell_codec.specs.Reading.{cell_at, int_at};
+ghost use Rattle.vx_cell_codec.specs.Reading.{cell_at, int_from, int_at};
 ghost use Rattle.vx_column_codec.specs.Rows.{flagged_at, flagged_leaf};
 
 use vx_byte_reader::{flag_at, front_at};
@@ -17,10 +17,10 @@ pub trait Readable: Leaf {
 
     /// The value at the front, and the bytes behind it.
     fn take(bytes: &[u8]) -> Option<(Self, &[u8])>
-        ensures { option_map (λ x. (as_cell x.0, x.1.now)) result ≡ cell_at (kind false) bytes.now };
+        ensures { option_map (λ x. (Self.as_cell x.0, x.1.now)) result ≡ cell_at (Self.kind false) bytes.now };
 
     /// In a nullable type it stands behind a flag.
-    ghost flagged: { (bytes : List ℕ) → cell_at (kind true) bytes ≡ flagged_at (cell_at (kind false)) bytes };
+    ghost flagged: { (bytes : List ℕ) → cell_at (Self.kind true) bytes ≡ flagged_at (cell_at (Self.kind false)) bytes };
 }
 
 impl Readable for bool {
@@ -46,7 +46,7 @@ impl Readable for u8 {
     #[tactic(auto, using(crate::proofs::LeafSteps::int_rules))]
     fn take(bytes: &[u8]) -> Option<(u8, &[u8])> {
         let (s, rest) = front_at(1, bytes)?;
-        Some((s[0], rest))
+        Some((u8_of(s), rest))
     }
 }
 
@@ -60,7 +60,7 @@ impl Readable for u16 {
     #[tactic(auto, using(crate::proofs::LeafSteps::int_rules))]
     fn take(bytes: &[u8]) -> Option<(u16, &[u8])> {
         let (s, rest) = front_at(2, bytes)?;
-        Some((u16::from_le_bytes([s[0], s[1]]), rest))
+        Some((u16_of(s), rest))
     }
 }
 
@@ -74,7 +74,7 @@ impl Readable for u32 {
     #[tactic(auto, using(crate::proofs::LeafSteps::int_rules))]
     fn take(bytes: &[u8]) -> Option<(u32, &[u8])> {
         let (s, rest) = front_at(4, bytes)?;
-        Some((u32::from_le_bytes([s[0], s[1], s[2], s[3]]), rest))
+        Some((u32_of(s), rest))
     }
 }
 
@@ -88,8 +88,7 @@ impl Readable for u64 {
     #[tactic(auto, using(crate::proofs::LeafSteps::int_rules))]
     fn take(bytes: &[u8]) -> Option<(u64, &[u8])> {
         let (s, rest) = front_at(8, bytes)?;
-        let value = u64::from_le_bytes([s[0], s[1], s[2], s[3], s[4], s[5], s[6], s[7]]);
-        Some((value, rest))
+        Some((u64_of(s), rest))
     }
 }
 
@@ -103,7 +102,7 @@ impl Readable for i8 {
     #[tactic(auto, using(crate::proofs::LeafSteps::int_rules))]
     fn take(bytes: &[u8]) -> Option<(i8, &[u8])> {
         let (s, rest) = front_at(1, bytes)?;
-        Some((i8::from_le_bytes([s[0]]), rest))
+        Some((i8_of(s), rest))
     }
 }
 
@@ -117,7 +116,7 @@ impl Readable for i16 {
     #[tactic(auto, using(crate::proofs::LeafSteps::int_rules))]
     fn take(bytes: &[u8]) -> Option<(i16, &[u8])> {
         let (s, rest) = front_at(2, bytes)?;
-        Some((i16::from_le_bytes([s[0], s[1]]), rest))
+        Some((i16_of(s), rest))
     }
 }
 
@@ -131,7 +130,7 @@ impl Readable for i32 {
     #[tactic(auto, using(crate::proofs::LeafSteps::int_rules))]
     fn take(bytes: &[u8]) -> Option<(i32, &[u8])> {
         let (s, rest) = front_at(4, bytes)?;
-        Some((i32::from_le_bytes([s[0], s[1], s[2], s[3]]), rest))
+        Some((i32_of(s), rest))
     }
 }
 
@@ -145,7 +144,62 @@ impl Readable for i64 {
     #[tactic(auto, using(crate::proofs::LeafSteps::int_rules))]
     fn take(bytes: &[u8]) -> Option<(i64, &[u8])> {
         let (s, rest) = front_at(8, bytes)?;
-        let value = i64::from_le_bytes([s[0], s[1], s[2], s[3], s[4], s[5], s[6], s[7]]);
-        Some((value, rest))
+        Some((i64_of(s), rest))
     }
+}
+
+fn u8_of(s: &[u8]) -> u8
+    requires { length s.now ≡ 1 }
+    ensures { pos result ≡ int_from types.U8 s.now }
+{
+    s[0]
+}
+
+fn u16_of(s: &[u8]) -> u16
+    requires { length s.now ≡ 2 }
+    ensures { pos result ≡ int_from types.U16 s.now }
+{
+    u16::from_le_bytes([s[0], s[1]])
+}
+
+fn u32_of(s: &[u8]) -> u32
+    requires { length s.now ≡ 4 }
+    ensures { pos result ≡ int_from types.U32 s.now }
+{
+    u32::from_le_bytes([s[0], s[1], s[2], s[3]])
+}
+
+fn u64_of(s: &[u8]) -> u64
+    requires { length s.now ≡ 8 }
+    ensures { pos result ≡ int_from types.U64 s.now }
+{
+    u64::from_le_bytes([s[0], s[1], s[2], s[3], s[4], s[5], s[6], s[7]])
+}
+
+fn i8_of(s: &[u8]) -> i8
+    requires { length s.now ≡ 1 }
+    ensures { result ≡ int_from types.I8 s.now }
+{
+    i8::from_le_bytes([s[0]])
+}
+
+fn i16_of(s: &[u8]) -> i16
+    requires { length s.now ≡ 2 }
+    ensures { result ≡ int_from types.I16 s.now }
+{
+    i16::from_le_bytes([s[0], s[1]])
+}
+
+fn i32_of(s: &[u8]) -> i32
+    requires { length s.now ≡ 4 }
+    ensures { result ≡ int_from types.I32 s.now }
+{
+    i32::from_le_bytes([s[0], s[1], s[2], s[3]])
+}
+
+fn i64_of(s: &[u8]) -> i64
+    requires { length s.now ≡ 8 }
+    ensures { result ≡ int_from types.I64 s.now }
+{
+    i64::from_le_bytes([s[0], s[1], s[2], s[3], s[4], s[5], s[6], s[7]])
 }
