@@ -1,5 +1,5 @@
 -- Values that are read from their bytes.
-use Rattle.std.proofs.Common.{◌≡◌, ℕ, ◌-◌, ◌+◌, ◌<◌, ◌≤◌, Bool, true, false, List, [], ◌∷◌, ◌++◌, length, Option, Some, None, refl, sym, ap, ◌∙◌, arith}
+use Rattle.std.proofs.Common.{◌≡◌, ℕ, ◌-◌, ◌+◌, ◌<◌, ◌≤◌, Bool, true, false, List, [], ◌∷◌, ◌++◌, length, Option, Some, None, refl, sym, ap, ◌∙◌, length-append, arith}
 use Rattle.std.specs.Prelude.{if◌then◌else◌, option_map, ◌==◌, ℤ}
 use Rattle.std.proofs.lemmas.List.{append-nil, nil_from_length}
 use Rattle.vx_model.specs.declared.ptype.PType.{PType}
@@ -45,6 +45,21 @@ bool_of_flag bytes = refl
 pub all_push : {X : Type 0} (f : X → CellData) (xs : List X) (x : X) → typed_cells f (xs ++ x ∷ []) [] ≡ typed_cells f xs [] ++ f x ∷ []
 all_push f [] x = refl
 all_push f (y ∷ xs) x = ap (λ (r : List CellData). f y ∷ r) (all_push f xs x)
+
+-- a row more is read
+pub plain_more : {X : Type 0} (f : X → CellData) (read : List ℕ → Option (CellData × List ℕ)) (xs new : List X) (x : X) (rows i : ℕ) (bytes after : List ℕ) (total : Option (List CellData × List ℕ))
+    → new ≡ xs ++ x ∷ [] → i < rows → Some (f x, after) ≡ read bytes → with_front (typed_cells f xs []) (many_at read (rows - i) bytes) ≡ total → with_front (typed_cells f new []) (many_at read (rows - (i + 1)) after) ≡ total
+plain_more f read xs new x rows i bytes after total e lt h so_far =
+    rw (e, all_push f xs x) (many_goes_on read (typed_cells f xs []) rows i bytes (f x) after total lt (sym h) so_far)
+
+pub flagged_more : {X : Type 0} (f : X → CellData) (read : List ℕ → Option (CellData × List ℕ)) (xs new : List X) (x : X) (bs flags : List Bool) (b : Bool) (rows i : ℕ) (bytes after : List ℕ) (total : Option (List CellData × List ℕ))
+    → new ≡ xs ++ x ∷ [] → flags ≡ bs ++ b ∷ [] → length bs ≡ length xs → i < rows → Some ((if b then f x else null_cell), after) ≡ read bytes
+    → with_front (typed_cells f xs bs) (many_at read (rows - i) bytes) ≡ total → with_front (typed_cells f new flags) (many_at read (rows - (i + 1)) after) ≡ total
+flagged_more f read xs new x bs flags b rows i bytes after total e g long lt h so_far =
+    rw (e, g, typed_push f xs bs x b long) (many_goes_on read (typed_cells f xs bs) rows i bytes (if b then f x else null_cell) after total lt (sym h) so_far)
+
+pub both_more : {X : Type 0} (xs new : List X) (x : X) (bs flags : List Bool) (b : Bool) → new ≡ xs ++ x ∷ [] → flags ≡ bs ++ b ∷ [] → length bs ≡ length xs → length flags ≡ length new
+both_more xs new x bs flags b e g long = rw (e, g) (length-append bs (b ∷ []) ∙ ap (λ (n : ℕ). n + 1) long ∙ sym (length-append xs (x ∷ [])))
 
 pub ruleset bool_rules = (bool_of_flag)
 

@@ -1,6 +1,6 @@
 //! Texts and bytes, read one after the other.
 
-ghost use Rattle.std.specs.Prelude.{◌≡◌, if◌then◌else◌, option_map, length, IsTrue, IfOk, IfSome};
+ghost use Rattle.std.specs.Prelude.{◌≡◌, ◌++◌, ◌∷◌, [], if◌then◌else◌, option_map, length, IsTrue, IfOk, IfSome, OnOk};
 ghost use Rattle.vx_model.specs.CellData.{null_cell};
 ghost use Rattle.vx_byte_reader.specs.Fields.{many_at};
 ghost use Rattle.vx_cell_codec.specs.Reading.{valid_at as one_valid, cell_at, cells_at};
@@ -9,7 +9,7 @@ ghost use Rattle.vx_typed.specs.Typed.{typed_cells, strings_between};
 ghost use Rattle.vx_typed.specs.StringCells.{string_cell, string_type, may_be as may, AreStrings};
 ghost use Rattle.vx_column_codec.specs.Rows.{string_at as one_string};
 
-use std::alloc::Global;
+use std::alloc::{AllocError, Global};
 use vx_byte_reader::{flag_at, front_at, u64_at};
 use vx_cell_codec::CellError;
 use vx_typed::{StringKind, Strings, push_string};
@@ -45,6 +45,34 @@ struct Taken {
     valid: Vec<bool>,
 }
 
+impl Taken {
+    /// None yet, with room for so many.
+    fn new(alloc: Global, room: usize) -> Result<Taken, AllocError>
+        ensures strings { IfOk result (λ t. t.strings.items ≡ []) }
+        ensures places { IfOk result (λ t. t.places.items ≡ 0 ∷ []) }
+        ensures valid { IfOk result (λ t. t.valid.items ≡ []) }
+    {
+        let mut places = Vec::with_capacity(alloc, room.saturating_add(1))?;
+        places.push(0)?;
+        Ok(Taken {
+            strings: Vec::new(alloc),
+            places,
+            valid: Vec::with_capacity(alloc, room)?,
+        })
+    }
+
+    /// One more.
+    fn push(&mut self, flag: bool, string: &[u8]) -> Result<(), AllocError>
+        ensures strings { OnOk result (self.new.strings.items ≡ self.old.strings.items ++ string.now) }
+        ensures places { OnOk result (self.new.places.items ≡ self.old.places.items ++ length self.new.strings.items ∷ []) }
+        ensures valid { OnOk result (self.new.valid.items ≡ self.old.valid.items ++ flag ∷ []) }
+    {
+        push_string(string, &mut self.strings, &mut self.places)?;
+        self.valid.push(flag)?;
+        Ok(())
+    }
+}
+
 /// So many strings, and the bytes behind them. The bytes bound their number, whatever `rows` claims.
 #[tactic(auto, using(crate::proofs::StringSteps::take_rules))]
 fn take_strings(
@@ -57,25 +85,15 @@ fn take_strings(
     ensures cells { Gives (λ x. (typed_cells (string_cell kind) (strings_between x.0.strings.items x.0.places.items) x.0.valid.items, x.1.now)) result (many_at (cell_at (string_type kind nullable)) rows bytes.now) }
     ensures strings { IfOk result (λ x. AreStrings kind x.0.strings.items x.0.places.items) }
 {
-    let room = (rows as usize).min(bytes.len());
-    let mut strings = Vec::new(alloc);
-    let mut places = Vec::with_capacity(alloc, room.saturating_add(1))?;
-    let mut valid = Vec::with_capacity(alloc, room)?;
-    places.push(0)?;
+    let mut taken = Taken::new(alloc, (rows as usize).min(bytes.len()))?;
     let mut rest = bytes;
     for _ in 0..rows {
         let Some((flag, string, after)) = take_row(kind, nullable, rest) else {
             return Err(CellError::NoCells);
         };
-        push_string(string, &mut strings, &mut places)?;
-        valid.push(flag)?;
+        taken.push(flag, string)?;
         rest = after;
     }
-    let taken = Taken {
-        strings,
-        places,
-        valid,
-    };
     Ok((taken, rest))
 }
 

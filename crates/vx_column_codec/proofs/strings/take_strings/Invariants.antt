@@ -8,8 +8,8 @@ use Rattle.vx_column_codec.proofs.strings.take_strings.Given as goal
 
 abbrev pub invariant-loop : goal.invariant-loop
 invariant-loop l = record {
-  read : with_front (typed_cells (string_cell l.kind) (strings_between l.strings.items l.places.items) l.valid.items) (many_at (cell_at (string_type l.kind l.nullable)) (l.rows - l.counter) l.rest)
+  read : with_front (typed_cells (string_cell l.kind) (strings_between l.taken.strings.items l.taken.places.items) l.taken.valid.items) (many_at (cell_at (string_type l.kind l.nullable)) (l.rows - l.counter) l.rest)
       ≡ many_at (cell_at (string_type l.kind l.nullable)) l.rows l.bytes;
-  grown : Grown l.kind l.strings.items l.places.items;
-  flags : length l.valid.items ≡ length (strings_between l.strings.items l.places.items);
+  grown : Grown l.kind l.taken.strings.items l.taken.places.items;
+  flags : length l.taken.valid.items ≡ length (strings_between l.taken.strings.items l.taken.places.items);
 }
