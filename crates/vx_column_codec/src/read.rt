@@ -46,7 +46,7 @@ macro_rules! leaves_of {
     };
 }
 
-#[tactic(auto, using(vx_model::proofs::Views::view_rules))]
+#[tactic(auto, using(crate::proofs::FillSteps::rows_rules))]
 fn read_rows(alloc: Global, dtype: &DType, rows: u64, bytes: &[u8]) -> Result<Column, CellError>
     ensures { Gives column_cells result (cells_at (ty dtype.now) rows bytes.now) }
 {

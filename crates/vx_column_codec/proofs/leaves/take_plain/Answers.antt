@@ -12,7 +12,7 @@ pub loop-preserved : goal.loop-preserved
 loop-preserved g c =
     let e : c.push.new.self.items ≡ c.loop.items.items ++ c.in-Some.value ∷ [] = search (rules, c.in_ok-push.ensures.items) in
     let more = plain_more g.T.Leaf.as_cell (cell_at (g.T.Leaf.kind false)) c.loop.items.items c.push.new.self.items c.in-Some.value c.args.rows c.loop.counter c.loop.rest.now c.in-Some.after.now _
-     e c.loop-test.true c.in-Some.ensures c.loop.invariant in
+    e c.loop-test.true c.in-Some.ensures c.loop.invariant in
     search (rules, more)
 
 pub returns : goal.returns
