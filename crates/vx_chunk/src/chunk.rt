@@ -65,7 +65,7 @@ impl Chunk {
         }
     }
 
-    /// Row i is the value whose place is code i. `conditions::makes_dict` tests the condition.
+    /// Row i is the value whose place is code i. `vx_chunk_conditions::makes_dict` tests the condition.
     pub fn dict(alloc: Global, codes: Chunk, values: Chunk) -> Result<Chunk, ChunkError>
         requires { IsTrue (makes_dict codes values) }
         ensures ok { IfOk result (λ c. c ≡ dict_piece codes values) }
@@ -87,7 +87,7 @@ impl Chunk {
         }
     }
 
-    /// The rows of the parts, joined; takes no memory. `conditions::are_parts` tests the condition.
+    /// The rows of the parts, joined; takes no memory. `vx_chunk_conditions::are_parts` tests the condition.
     pub fn chunked(dtype: DType, parts: Vec<Chunk>) -> Result<Chunk, ChunkError>
         requires { IsTrue (are_parts (ty dtype) parts.items) }
         ensures ok { IfOk result (λ c. c ≡ chunked_piece (ty dtype) (pieces_of parts.items)) }
@@ -105,7 +105,7 @@ impl Chunk {
         })
     }
 
-    /// Row i has the elements from offset i to offset i + 1. `conditions::makes_list` tests the condition.
+    /// Row i has the elements from offset i to offset i + 1. `vx_chunk_conditions::makes_list` tests the condition.
     pub fn list(
         alloc: Global,
         dtype: DType,
@@ -129,7 +129,7 @@ impl Chunk {
         })
     }
 
-    /// Row i has cell i of each field; takes no memory. `conditions::makes_struct` tests the condition.
+    /// Row i has cell i of each field; takes no memory. `vx_chunk_conditions::makes_struct` tests the condition.
     pub fn strukt(dtype: DType, fields: Vec<Chunk>, valid: Vec<bool>, rows: u64) -> Chunk
         requires { IsTrue (makes_struct (ty dtype) fields.items valid.items rows) }
         ensures { result ≡ struct_piece (ty dtype) (pieces_of fields.items) valid.items rows }

@@ -4,7 +4,6 @@
 mod canon;
 mod chunk;
 mod concat;
-pub mod conditions;
 mod copy;
 mod elements;
 mod error;

@@ -1,4 +1,5 @@
-//! Tests of what the constructors ask.
+//! Tests of what the constructors of chunks ask.
+#![tactic(auto)]
 
 ghost use Rattle.std.specs.Prelude.{◌≡◌, ◌&&◌, not, map, IsTrue};
 ghost use Rattle.vx_model.specs.Words.{all_by};
@@ -7,7 +8,7 @@ ghost use Rattle.vx_model.specs.TyView.{ty, field_ty};
 ghost use Rattle.vx_model.specs.ChunkData.{piece_type, cells as cells_in, is_simple, is_chunked, is_code as is_place, are_parts as are_parts_of, has_fields as of_fields, match_fields as match_types};
 ghost use Rattle.vx_chunk.specs.Conditions.{makes_dict as dict_of, makes_list as list_of, makes_struct as struct_of, are_of_type as all_of_type};
 
-use crate::node::{Chunk, Node};
+use vx_chunk::{Chunk, Node};
 use vx_chunk_cells::{are_flags, are_offsets, has_elements, is_code, is_code_type, is_dict_type};
 use vx_model::{DType, StructField};
 
@@ -17,7 +18,7 @@ pub fn are_codes(codes: &Chunk, count: u64) -> bool
     requires { IsTrue (is_simple codes.now) }
     ensures { result ≡ all_by (is_place count) (cells_in codes.now) }
 {
-    match &codes.node {
+    match codes.node() {
         Node::Plain { column, .. } => column.are_places(count),
         Node::Constant { cell, rows, .. } => *rows == 0 || is_code(cell, count),
         Node::Dict { .. } | Node::Chunked { .. } | Node::List { .. } => unreachable!(),
