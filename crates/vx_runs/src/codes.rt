@@ -12,7 +12,6 @@ ghost use Rattle.vx_runs.specs.Cutting.{is_code_of};
 
 use std::alloc::{AllocError, Global};
 use vx_chunk::Chunk;
-use vx_column::Column;
 use vx_model::{Cell, DType, Nullability, PType};
 use vx_strategy_options::DictLayoutConstraints;
 
@@ -27,9 +26,7 @@ pub fn codes_chunk(
     ensures { IfOk result (λ c. c ≡ codes_piece (dict_options limits 0) codes.now) }
 {
     let cells = code_cells(alloc, codes)?;
-    let dtype = code_dtype(limits);
-    let column = Column::from_cells(alloc, &dtype, cells)?;
-    Ok(Chunk::column(dtype, column))
+    Ok(Chunk::typed(alloc, code_dtype(limits), cells)?)
 }
 
 /// The type of codes, by the greatest number of cells.
