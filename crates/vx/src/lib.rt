@@ -18,8 +18,8 @@ pub mod types {
     /// Tests of what the constructors of chunks ask.
     pub mod conditions {
         pub use vx_chunk_conditions::{
-            are_codes, are_of_type, are_parts, has_fields, has_type, makes_dict, makes_list, makes_struct,
-            match_fields,
+            are_codes, are_of_type, are_parts, has_fields, has_type, makes_dict, makes_list,
+            makes_struct, match_fields,
         };
     }
 }
