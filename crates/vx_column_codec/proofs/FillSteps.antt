@@ -1,8 +1,7 @@
 -- What a reader of columns that answers so says.
-use Rattle.std.proofs.Common.{◌≡◌, ℕ, ◌≤◌, List, length, refl, Some, Result, Ok, Err}
+use Rattle.std.proofs.Common.{◌≡◌, ℕ, ◌≤◌, List, length, refl, Result, Ok, Err}
 use Rattle.std.specs.Prelude.{IfOk}
 use Rattle.vx_model.specs.Ty.{Ty, extension}
-use Rattle.vx_model.specs.CellData.{CellData}
 use Rattle.vx_model.proofs.Views.{view_rules}
 use Rattle.vx_byte_reader.proofs.FieldLaws.{IsBytes}
 use Rattle.vx_cell_codec.specs.declared.error.CellError.{CellError}

@@ -1,13 +1,13 @@
 -- Values that are read from their bytes.
-use Rattle.std.proofs.Common.{◌≡◌, ℕ, ◌-◌, ◌+◌, ◌<◌, ◌≤◌, Bool, true, false, List, [], ◌∷◌, ◌++◌, length, Option, Some, None, refl, sym, ap, ◌∙◌, length-append, arith}
-use Rattle.std.specs.Prelude.{if◌then◌else◌, option_map, ◌==◌, ℤ}
+use Rattle.std.proofs.Common.{◌≡◌, ℕ, ◌-◌, ◌+◌, ◌<◌, Bool, false, List, [], ◌∷◌, ◌++◌, length, Option, Some, None, refl, sym, ap, ◌∙◌, length-append}
+use Rattle.std.specs.Prelude.{if◌then◌else◌, ℤ}
 use Rattle.std.proofs.lemmas.List.{append-nil, nil_from_length}
 use Rattle.vx_model.specs.declared.ptype.PType.{PType}
 use Rattle.vx_model.specs.Numbers.{ptype_bytes}
 use Rattle.vx_model.specs.Ty.{boolean, primitive}
 use Rattle.vx_model.specs.CellData.{CellData, null_cell, bool_cell, int_cell}
 use Rattle.vx_byte_reader.specs.Fields.{◌>>=◌, front_at, flag_at, many_at}
-use Rattle.vx_byte_reader.proofs.FieldLoops.{with_front, many_goes_on, many_done}
+use Rattle.vx_byte_reader.proofs.FieldLoops.{with_front, many_goes_on}
 use Rattle.vx_cell_codec.specs.Reading.{int_from, int_at, valid_at, leaf_at, cell_at}
 use Rattle.vx_typed.specs.Typed.{typed_cells}
 use Rattle.vx_typed.proofs.Steps.{typed_push}

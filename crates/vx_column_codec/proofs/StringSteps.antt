@@ -1,9 +1,8 @@
 -- Strings that are read from their bytes.
-use Rattle.std.proofs.Common.{◌≡◌, ℕ, Bool, true, false, List, [], ◌∷◌, ◌++◌, length, Option, Some, None, refl, sym, ap, ◌∙◌}
+use Rattle.std.proofs.Common.{◌≡◌, ℕ, Bool, true, false, List, Some, None, refl, ap, ◌∙◌}
 use Rattle.std.specs.Prelude.{if◌then◌else◌}
-use Rattle.std.specs.Str.{is_utf8}
 use Rattle.std.proofs.lemmas.List.{nil_from_length}
-use Rattle.vx_model.specs.CellData.{CellData, null_cell}
+use Rattle.vx_model.specs.CellData.{null_cell}
 use Rattle.vx_byte_reader.specs.Fields.{◌>>=◌, front_at}
 use Rattle.vx_cell_codec.specs.Reading.{number_at, blob_at, text_at, valid_at, leaf_at, cell_at}
 use Rattle.vx_typed.specs.declared.kind.StringKind.{StringKind}
