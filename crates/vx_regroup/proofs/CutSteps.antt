@@ -1,6 +1,6 @@
 -- Cutting blocks off from the back, and rows behind others.
 use Rattle.std.proofs.Common.{◌≡◌, ℕ, ◌+◌, ◌-◌, ◌<◌, ◌≤◌, Bool, true, List, [], ◌∷◌, ◌++◌, length, take, drop, sum, get_or, refl, sym, ap, ap₂, ◌∙◌, arith, length-append}
-use Rattle.std.proofs.lemmas.List.{append-nil, drop_more, drop-take, take_at, length-take-le}
+use Rattle.std.proofs.lemmas.List.{append-nil, drop_more, take-take, drop-take, take_at, length-take-le}
 use Rattle.std.proofs.lemmas.List.Sums.{sum_by_more, sum_by-take-le, sum_by-cons}
 use Rattle.vx_model.specs.Words.{all_by}
 use Rattle.vx_model.specs.Ty.{Ty}
@@ -42,6 +42,11 @@ module _ (orig : List CellData) (sizes : List ℕ) (k : ℕ) (less : k < length 
         let l : length cells ≡ length (take (before + size) orig) = ap length front_is in
         let m : length (take (before + size) orig) ≡ before + size = length-take-le (before + size) orig is_within in omega arith
 
+    pub size_fits : size ≤ length cells
+    size_fits =
+        let l : length cells ≡ length (take (before + size) orig) = ap length front_is in
+        let m : length (take (before + size) orig) ≡ before + size = length-take-le (before + size) orig is_within in omega arith
+
     pub left_is : take (length cells - size) cells ≡ take before orig
     left_is = ap₂ take start_is front_is ∙ ap (take before) (take_both before size orig) ∙ take_at (take before orig) (take size (drop before orig)) before (length-take-le before orig (let h : before + size ≤ length orig = is_within in omega arith))
 
@@ -57,10 +62,16 @@ module _ (orig : List CellData) (sizes : List ℕ) (k : ℕ) (less : k < length 
       ∙ ap (λ m. plain_piece t (take m (drop before orig)) ∷ cut_off t (drop m (drop before orig)) (drop (place + 1) sizes)) size_is
       ∙ ap (cut_off t (drop before orig)) (sym (drop_more sizes place 0 (omega arith)))
 
-pub window_fits : (f : CellData → Bool) (n m : ℕ) (rows : List CellData) → all_by f rows ≡ true → all_by f (take n (drop m rows)) ≡ true
-window_fits f n m rows h = all_take f n (drop m rows) (all_drop f m rows h)
+pub ruleset fit_rules = (all_take, all_drop)
 
-pub ruleset cut_rules = (length-take-le)
+-- blocks reach no further than their sizes
+pub cut_front : (t : Ty) (rows : List CellData) (ks : List ℕ) → cut_off t (take (sum ks) rows) ks ≡ cut_off t rows ks
+cut_front t rows [] = refl
+cut_front t rows (k ∷ ks) =
+    let e : sum (k ∷ ks) ≡ k + sum ks = sum_by-cons (λ x. x) k ks in
+    ap (λ n. cut_off t (take n rows) (k ∷ ks)) e
+    ∙ ap₂ (λ (first rest : List CellData). plain_piece t first ∷ cut_off t rest ks) (take-take k (k + sum ks) rows (omega arith)) (drop-take k (sum ks) rows)
+    ∙ ap (λ (cs : List ChunkData). plain_piece t (take k rows) ∷ cs) (cut_front t (drop k rows) ks)
 
 no_block : (t : Ty) (rows : List CellData) → length rows ≡ 0 → last_block t rows ≡ []
 no_block t [] e = refl
