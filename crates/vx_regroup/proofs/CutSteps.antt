@@ -6,13 +6,13 @@ use Rattle.vx_model.specs.Words.{all_by}
 use Rattle.vx_model.specs.Ty.{Ty}
 use Rattle.vx_model.specs.CellData.{CellData}
 use Rattle.vx_model.specs.ChunkData.{ChunkData, plain_piece}
-use Rattle.vx_layout_spec.proofs.CellsFit.{all_take, all_drop, all_append}
+use Rattle.vx_layout_spec.proofs.CellsFit.{all_drop, all_append}
 use Rattle.vx_rules.specs.Blocks.{block_sizes, tested_sizes, check_points, sizes_at, cut_off, left_over, last_block}
 use Rattle.vx_plan.specs.GroupNode.{tested_at as tested_by}
 use Rattle.vx_regroup.specs.Rules.{exactly}
 use Rattle.vx_regroup.proofs.Lists.{drop_both, take_both}
 
-module _ (orig : List CellData) (sizes : List ℕ) (k : ℕ) (less : k < length sizes) (within : sum sizes ≤ length orig) where
+module _ (orig : List CellData) (sizes : List ℕ) (k : ℕ) (less : k < length sizes) (whole : sum sizes ≡ length orig) where
   -- the place of the block that is cut off, the rows before it, and its own
   abbrev pub place : ℕ
   place = length sizes - (k + 1)
@@ -62,8 +62,6 @@ module _ (orig : List CellData) (sizes : List ℕ) (k : ℕ) (less : k < length 
       ∙ ap (λ m. plain_piece t (take m (drop before orig)) ∷ cut_off t (drop m (drop before orig)) (drop (place + 1) sizes)) size_is
       ∙ ap (cut_off t (drop before orig)) (sym (drop_more sizes place 0 (omega arith)))
 
-pub ruleset fit_rules = (all_take, all_drop)
-
 -- blocks reach no further than their sizes
 pub cut_front : (t : Ty) (rows : List CellData) (ks : List ℕ) → cut_off t (take (sum ks) rows) ks ≡ cut_off t rows ks
 cut_front t rows [] = refl
@@ -73,11 +71,11 @@ cut_front t rows (k ∷ ks) =
     ∙ ap₂ (λ (first rest : List CellData). plain_piece t first ∷ cut_off t rest ks) (take-take k (k + sum ks) rows (omega arith)) (drop-take k (sum ks) rows)
     ∙ ap (λ (cs : List ChunkData). plain_piece t (take k rows) ∷ cs) (cut_front t (drop k rows) ks)
 
-no_block : (t : Ty) (rows : List CellData) → length rows ≡ 0 → last_block t rows ≡ []
+pub no_block : (t : Ty) (rows : List CellData) → length rows ≡ 0 → last_block t rows ≡ []
 no_block t [] e = refl
 no_block t (c ∷ cs) e = absurd (omega (arith, e))
 
-one_block : (t : Ty) (rows : List CellData) → 0 < length rows → last_block t rows ≡ plain_piece t rows ∷ []
+pub one_block : (t : Ty) (rows : List CellData) → 0 < length rows → last_block t rows ≡ plain_piece t rows ∷ []
 one_block t [] lt = absurd (omega (arith, lt))
 one_block t (c ∷ cs) lt = refl
 

@@ -1,4 +1,4 @@
-use Rattle.std.proofs.Common.{◌≡◌, ◌≤◌, ◌∷◌, ◌-◌, [], length, take, sum, arith, ap, ◌∙◌}
+use Rattle.std.proofs.Common.{◌∷◌, ◌-◌, [], length, take, sum, ap, ◌∙◌}
 use Rattle.std.specs.Prelude.{reverse}
 use Rattle.std.proofs.lemmas.List.{reverse-append}
 use Rattle.vx_layout_spec.proofs.CellsFit.{all_take}
@@ -17,16 +17,14 @@ last_off-requires-clause-fit c =
 
 pub last_off-requires-clause-within : goal.last_off-requires-clause-within
 last_off-requires-clause-within c =
-    let w : sum c.args.sizes.now ≤ length (column_cells c.args.rows) = omega arith in
-    size_fits (column_cells c.args.rows) c.args.sizes.now c.loop-k.k c.loop-k-test.true w (column_cells c.loop-k.front) c.loop-k.invariant.front
+    size_fits (column_cells c.args.rows) c.args.sizes.now c.loop-k.k c.loop-k-test.true c.requires.summed (column_cells c.loop-k.front) c.loop-k.invariant.front
 
 pub loop-k-preserved : goal.loop-k-preserved
 loop-k-preserved c =
-    let w : sum c.args.sizes.now ≤ length (column_cells c.args.rows) = omega arith in
     record {
-      front = c.in_ok-before.ensures.before ∙ left_is (column_cells c.args.rows) c.args.sizes.now c.loop-k.k c.loop-k-test.true w (column_cells c.loop-k.front) c.loop-k.invariant.front;
+      front = c.in_ok-before.ensures.before ∙ left_is (column_cells c.args.rows) c.args.sizes.now c.loop-k.k c.loop-k-test.true c.requires.summed (column_cells c.loop-k.front) c.loop-k.invariant.front;
       blocks = ap reverse c.in_ok-push.ensures.items ∙ reverse-append c.loop-k.blocks.items (c.in_ok-before.block ∷ [])
           ∙ ap (λ (p : ChunkData). p ∷ reverse c.loop-k.blocks.items)
-          (c.in_ok-before.ensures.block ∙ ap (plain_piece (ty c.args.dtype.now)) (taken_is (column_cells c.args.rows) c.args.sizes.now c.loop-k.k c.loop-k-test.true w (column_cells c.loop-k.front) c.loop-k.invariant.front))
-          ∙ blocks_is (column_cells c.args.rows) c.args.sizes.now c.loop-k.k c.loop-k-test.true w (ty c.args.dtype.now) (reverse c.loop-k.blocks.items) c.loop-k.invariant.blocks;
+          (c.in_ok-before.ensures.block ∙ ap (plain_piece (ty c.args.dtype.now)) (taken_is (column_cells c.args.rows) c.args.sizes.now c.loop-k.k c.loop-k-test.true c.requires.summed (column_cells c.loop-k.front) c.loop-k.invariant.front))
+          ∙ blocks_is (column_cells c.args.rows) c.args.sizes.now c.loop-k.k c.loop-k-test.true c.requires.summed (ty c.args.dtype.now) (reverse c.loop-k.blocks.items) c.loop-k.invariant.blocks;
     }
