@@ -1,18 +1,18 @@
 -- Cutting blocks off from the back, and rows behind others.
 use Rattle.std.proofs.Common.{◌≡◌, ℕ, ◌+◌, ◌-◌, ◌<◌, ◌≤◌, Bool, true, List, [], ◌∷◌, ◌++◌, length, take, drop, sum, get_or, refl, sym, ap, ap₂, ◌∙◌, arith, length-append}
-use Rattle.std.proofs.lemmas.List.{append-nil, drop_more, drop-take, take_at, length-take-le}
+use Rattle.std.proofs.lemmas.List.{append-nil, drop_more, take-take, drop-take, take_at, length-take-le}
 use Rattle.std.proofs.lemmas.List.Sums.{sum_by_more, sum_by-take-le, sum_by-cons}
 use Rattle.vx_model.specs.Words.{all_by}
 use Rattle.vx_model.specs.Ty.{Ty}
 use Rattle.vx_model.specs.CellData.{CellData}
 use Rattle.vx_model.specs.ChunkData.{ChunkData, plain_piece}
-use Rattle.vx_layout_spec.proofs.CellsFit.{all_take, all_drop, all_append}
+use Rattle.vx_layout_spec.proofs.CellsFit.{all_drop, all_append}
 use Rattle.vx_rules.specs.Blocks.{block_sizes, tested_sizes, check_points, sizes_at, cut_off, left_over, last_block}
 use Rattle.vx_plan.specs.GroupNode.{tested_at as tested_by}
 use Rattle.vx_regroup.specs.Rules.{exactly}
 use Rattle.vx_regroup.proofs.Lists.{drop_both, take_both}
 
-module _ (orig : List CellData) (sizes : List ℕ) (k : ℕ) (less : k < length sizes) (within : sum sizes ≤ length orig) where
+module _ (orig : List CellData) (sizes : List ℕ) (k : ℕ) (less : k < length sizes) (whole : sum sizes ≡ length orig) where
   -- the place of the block that is cut off, the rows before it, and its own
   abbrev pub place : ℕ
   place = length sizes - (k + 1)
@@ -42,6 +42,11 @@ module _ (orig : List CellData) (sizes : List ℕ) (k : ℕ) (less : k < length 
         let l : length cells ≡ length (take (before + size) orig) = ap length front_is in
         let m : length (take (before + size) orig) ≡ before + size = length-take-le (before + size) orig is_within in omega arith
 
+    pub size_fits : size ≤ length cells
+    size_fits =
+        let l : length cells ≡ length (take (before + size) orig) = ap length front_is in
+        let m : length (take (before + size) orig) ≡ before + size = length-take-le (before + size) orig is_within in omega arith
+
     pub left_is : take (length cells - size) cells ≡ take before orig
     left_is = ap₂ take start_is front_is ∙ ap (take before) (take_both before size orig) ∙ take_at (take before orig) (take size (drop before orig)) before (length-take-le before orig (let h : before + size ≤ length orig = is_within in omega arith))
 
@@ -57,16 +62,20 @@ module _ (orig : List CellData) (sizes : List ℕ) (k : ℕ) (less : k < length 
       ∙ ap (λ m. plain_piece t (take m (drop before orig)) ∷ cut_off t (drop m (drop before orig)) (drop (place + 1) sizes)) size_is
       ∙ ap (cut_off t (drop before orig)) (sym (drop_more sizes place 0 (omega arith)))
 
-pub window_fits : (f : CellData → Bool) (n m : ℕ) (rows : List CellData) → all_by f rows ≡ true → all_by f (take n (drop m rows)) ≡ true
-window_fits f n m rows h = all_take f n (drop m rows) (all_drop f m rows h)
+-- blocks reach no further than their sizes
+pub cut_front : (t : Ty) (rows : List CellData) (ks : List ℕ) → cut_off t (take (sum ks) rows) ks ≡ cut_off t rows ks
+cut_front t rows [] = refl
+cut_front t rows (k ∷ ks) =
+    let e : sum (k ∷ ks) ≡ k + sum ks = sum_by-cons (λ x. x) k ks in
+    ap (λ n. cut_off t (take n rows) (k ∷ ks)) e
+    ∙ ap₂ (λ (first rest : List CellData). plain_piece t first ∷ cut_off t rest ks) (take-take k (k + sum ks) rows (omega arith)) (drop-take k (sum ks) rows)
+    ∙ ap (λ (cs : List ChunkData). plain_piece t (take k rows) ∷ cs) (cut_front t (drop k rows) ks)
 
-pub ruleset cut_rules = (length-take-le)
-
-no_block : (t : Ty) (rows : List CellData) → length rows ≡ 0 → last_block t rows ≡ []
+pub no_block : (t : Ty) (rows : List CellData) → length rows ≡ 0 → last_block t rows ≡ []
 no_block t [] e = refl
 no_block t (c ∷ cs) e = absurd (omega (arith, e))
 
-one_block : (t : Ty) (rows : List CellData) → 0 < length rows → last_block t rows ≡ plain_piece t rows ∷ []
+pub one_block : (t : Ty) (rows : List CellData) → 0 < length rows → last_block t rows ≡ plain_piece t rows ∷ []
 one_block t [] lt = absurd (omega (arith, lt))
 one_block t (c ∷ cs) lt = refl
 

@@ -83,10 +83,12 @@ fn codes_and_values(alloc: Global, column: &Column, most: u64) -> Result<Option<
         (λ c. (length c.values ≤ most) × (c.values ≡ distinct (column_cells column.now)) × (map tree c.codes.items ≡ map offset_cell (codes_of (distinct (column_cells column.now)) (column_cells column.now))))) }
 {
     let mut values = CellTable::new(alloc);
-    let mut codes = Vec::with_capacity(alloc, column.len())?;
-    for row in 0..column.len() {
+    let rows = column.len();
+    let mut codes = Vec::with_capacity(alloc, rows)?;
+    for row in 0..rows {
         let code = place(&mut values, alloc, column.row(row))?;
-        if values.len() > most {
+        let count = values.len();
+        if count > most {
             return Ok(None);
         }
         codes.push(code_cell(code))?;

@@ -6,7 +6,7 @@ use Rattle.vx_model.specs.Words.{all_by}
 use Rattle.vx_model.specs.Ty.{Ty}
 use Rattle.vx_model.specs.CellData.{CellData, fits}
 use Rattle.vx_model.specs.ValueData.{ValueData, value, value_fits, is_null_value, is_row_value}
-use Rattle.vx_model.specs.TreeView.{tree, val}
+use Rattle.vx_model.specs.TreeView.{val}
 use Rattle.vx_model.specs.declared.row_value.Value.{Value}
 use Rattle.vx_bloom_spec.proofs.ValueFits.{value_fits-value}
 use Rattle.vx_aggregate_spec.specs.Aggregate.{Column, held_aggregates}

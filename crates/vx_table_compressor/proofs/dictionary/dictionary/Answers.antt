@@ -12,8 +12,8 @@ use Rattle.vx_compressor_spec.specs.TableImage.{distinct, codes_of, code_ptype}
 use Rattle.vx_table_compressor.proofs.CodeSteps.{Makes, makes}
 use Rattle.vx_table_compressor.proofs.dictionary.dictionary.Goals as goal
 
-pub typed-codes-requires : goal.typed-codes-requires
-typed-codes-requires c =
+pub typed-requires : goal.typed-requires
+typed-requires c =
     let v : c.in-Some.coded.values ≡ distinct (column_cells c.args.column.now) = search rules in
     let k : map tree c.in-Some.coded.codes.items ≡ map offset_cell (codes_of (distinct (column_cells c.args.column.now)) (column_cells c.args.column.now)) = search rules in
     let few : length c.in-Some.coded.values ≤ c.args.most = search rules in
@@ -21,8 +21,8 @@ typed-codes-requires c =
     let m : Makes (ty c.args.dtype.now) (column_cells c.args.column.now) = makes (ty c.args.dtype.now) (column_cells c.args.column.now) c.requires.dict c.requires.fit (omega arith) in
     ap₂ (λ (t : Ty) (cs : List CellData). all_by (fits t) cs) (c.code_dtype.ensures ∙ ap (λ (j : ℕ). primitive (code_ptype j) false) (c.len.ensures ∙ n)) k ∙ m.codes
 
-pub typed-values-requires : goal.typed-values-requires
-typed-values-requires c =
+pub typed-requires-2 : goal.typed-requires-2
+typed-requires-2 c =
     let v : c.in-Some.coded.values ≡ distinct (column_cells c.args.column.now) = search rules in
     let few : length c.in-Some.coded.values ≤ c.args.most = search rules in
     let n : length c.in-Some.coded.values ≡ length (distinct (column_cells c.args.column.now)) = ap length v in
