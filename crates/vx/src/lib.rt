@@ -3,7 +3,7 @@
 
 /// Types, cells, chunks, and the segments that chunks are written as and read from.
 pub mod types {
-    pub use vx_chunk::{Chunk, ChunkError, conditions};
+    pub use vx_chunk::{Chunk, ChunkError};
     pub use vx_chunk_cells::has_storage;
     pub use vx_encodings::all_encodings;
     pub use vx_field_path::{FieldMask, FieldPath};
@@ -14,6 +14,14 @@ pub mod types {
     pub use vx_path::owned::Path;
     pub use vx_segment_reader::{DecodeError, buffer_lengths, decode_segment, tree_buffer_lengths};
     pub use vx_segment_writer::{EncodeError, encode_segment};
+
+    /// Tests of what the constructors of chunks ask.
+    pub mod conditions {
+        pub use vx_chunk_conditions::{
+            are_codes, are_of_type, are_parts, has_fields, has_type, makes_dict, makes_list,
+            makes_struct, match_fields,
+        };
+    }
 }
 
 /// Layouts of all kinds: constructors, bytes, texts and rows.

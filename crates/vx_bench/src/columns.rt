@@ -109,11 +109,11 @@ fn stream(
     let mut compressor = TableCompressor::new(Vec::new(alloc));
     let start = Instant::now(rt)?;
     let written = write_stream(alloc, strategy, ctx, source, sink, &[], &mut compressor);
-    let nanos = start.elapsed(rt)?.as_nanos();
-    match written {
-        Ok(_) => Ok(nanos),
-        Err(refused) => Err(refused.error.into()),
-    }
+    let elapsed = start.elapsed(rt);
+    let is_written = written.is_ok();
+    drop(written);
+    ensure!(is_written, "not written");
+    Ok(elapsed?.as_nanos())
 }
 
 fn compressors(alloc: Global) -> Result<Vec<TableCompressor>> {

@@ -1,6 +1,9 @@
-//! The command that writes column by column.
+//! The command that writes column by column; and the test of all that writes so, one function since each links the whole write.
 
 use crate::columns_jobs::{COMPRESSED, PLAIN};
+use crate::columns_writes::{
+    a_sink_that_fails, columns_beside_each_other, two_columns_as_one_machine,
+};
 use crate::meeting::Meeting;
 use std::alloc::Global;
 use std::process::Abort;
@@ -55,10 +58,8 @@ fn is_without_steps(alloc: Global, wanted: &[u8], found: &[u8]) -> Result<bool, 
 }
 
 /// It prints the report of `write` without its steps.
-#[test]
-fn columns_as_write(rt: HostRuntime) -> Result<(), Fail> {
-    let alloc = rt.alloc();
-    let ((wrote, wanted), (done, found)) = answers(&rt, alloc, PLAIN, &NoGate)?;
+fn columns_as_write<R: Abort + Threads + Wait + Sync>(rt: &R, alloc: Global) -> Result<(), Fail> {
+    let ((wrote, wanted), (done, found)) = answers(rt, alloc, PLAIN, &NoGate)?;
     assert!(rt; wrote == Status::Done);
     assert!(rt; done == Status::Done);
     assert!(rt; is_without_steps(alloc, &wanted, &found)?);
@@ -66,24 +67,26 @@ fn columns_as_write(rt: HostRuntime) -> Result<(), Fail> {
 }
 
 /// A strategy that has no columns is no job of it.
-#[test]
-fn a_job_without_columns(rt: HostRuntime) -> Result<(), Fail> {
-    let alloc = rt.alloc();
+fn a_job_without_columns<R: Abort + Threads + Wait + Sync>(
+    rt: &R,
+    alloc: Global,
+) -> Result<(), Fail> {
     let job = r#"{"schema":"i64","strategy":{"chunked":"flat"},"batches":[[7]]}"#;
     let mut input = ByteInput::new(Vec::from_slice(alloc, job.as_bytes())?, 64, Vec::new(alloc));
     let mut output = ByteOutput::new(64, Vec::new(alloc));
-    let status = run_columns(&rt, alloc, &mut input, &mut output, &NoGate);
+    let status = run_columns(rt, alloc, &mut input, &mut output, &NoGate);
     assert!(rt; status == Status::BadJob);
     assert!(rt; output.bytes() == b"bad job at strategy\n".as_slice());
     Ok(())
 }
 
 /// Through the program's own call the columns run beside each other too.
-#[test]
-fn commands_beside_each_other(rt: HostRuntime) -> Result<(), Fail> {
-    let alloc = rt.alloc();
-    let gate = Meeting::new(&rt, 10_000_000);
-    let ((wrote, wanted), (done, found)) = answers(&rt, alloc, COMPRESSED, &gate)?;
+fn commands_beside_each_other<R: Abort + Threads + Wait + Sync>(
+    rt: &R,
+    alloc: Global,
+) -> Result<(), Fail> {
+    let gate = Meeting::new(rt, 10_000_000);
+    let ((wrote, wanted), (done, found)) = answers(rt, alloc, COMPRESSED, &gate)?;
     assert!(rt; wrote == Status::Done);
     assert!(rt; done == Status::Done);
     assert!(rt; is_without_steps(alloc, &wanted, &found)?);
@@ -92,4 +95,15 @@ fn commands_beside_each_other(rt: HostRuntime) -> Result<(), Fail> {
     assert!(rt; seen.second_saw);
     assert!(rt; !seen.gave_up);
     Ok(())
+}
+
+#[test]
+fn columns_on_threads(rt: HostRuntime) -> Result<(), Fail> {
+    let alloc = rt.alloc();
+    two_columns_as_one_machine(&rt, alloc)?;
+    a_sink_that_fails(&rt, alloc)?;
+    columns_beside_each_other(&rt, alloc)?;
+    columns_as_write(&rt, alloc)?;
+    a_job_without_columns(&rt, alloc)?;
+    commands_beside_each_other(&rt, alloc)
 }

@@ -94,6 +94,16 @@ fn by_columns<G: Gate + Sync, R: Threads + Wait + Sync>(
     Ok((told_of(alloc, told)?, sink.into_segments()))
 }
 
+fn divided<G: Gate + Sync, R: Threads + Wait + Sync>(
+    rt: &R,
+    alloc: Global,
+    job: &str,
+    fail: Vec<u64>,
+    gate: &G,
+) -> Result<Outcome, Fail> {
+    by_columns(rt, alloc, job_of(alloc, job)?, fail, gate)
+}
+
 fn two_compressors(alloc: Global) -> Result<Vec<TableCompressor>, Fail>
     ensures { IfOk result (λ v. vec_len v ≡ 2) }
 {
@@ -131,48 +141,45 @@ const LAID: &str = "vortex.struct, dtype: {a=i64, b=i64}, children: 2, rows: 3
     └── [1]: vortex.flat, dtype: i64, rows: 1, segment: 3
 ";
 
+/// Whether the layout's text is `LAID`, and the segments.
+fn laid(outcome: Outcome) -> (bool, Vec<Blob>) {
+    let (told, segments) = outcome;
+    (is_text(&told, LAID), segments)
+}
+
 /// Layout and segments are those of the write by one machine.
-#[test]
-fn two_columns_as_one_machine(rt: HostRuntime) -> Result<(), Fail> {
-    let alloc = rt.alloc();
-    let (wanted, stored) = streamed(alloc, job_of(alloc, PLAIN)?)?;
-    let (found, segments) = by_columns(
-        &rt,
-        alloc,
-        job_of(alloc, PLAIN)?,
-        Vec::new(alloc),
-        &NoGate,
-    )?;
-    assert!(rt; is_text(&wanted, LAID));
-    assert!(rt; is_text(&found, LAID));
+pub(crate) fn two_columns_as_one_machine<R: Abort + Threads + Wait + Sync>(
+    rt: &R,
+    alloc: Global,
+) -> Result<(), Fail> {
+    let (is_laid, stored) = laid(streamed(alloc, job_of(alloc, PLAIN)?)?);
+    assert!(rt; is_laid);
+    let (is_laid, segments) = laid(divided(rt, alloc, PLAIN, Vec::new(alloc), &NoGate)?);
+    assert!(rt; is_laid);
     assert!(rt; segments.len() == 4);
     assert!(rt; same_bytes(&stored, &segments));
     Ok(())
 }
 
 /// The sink fails at its second append: one segment stands.
-#[test]
-fn a_sink_that_fails(rt: HostRuntime) -> Result<(), Fail> {
-    let alloc = rt.alloc();
+pub(crate) fn a_sink_that_fails<R: Abort + Threads + Wait + Sync>(
+    rt: &R,
+    alloc: Global,
+) -> Result<(), Fail> {
     let fail = vec![in alloc; 1]?;
-    let (found, segments) = by_columns(&rt, alloc, job_of(alloc, PLAIN)?, fail, &NoGate)?;
+    let (found, segments) = divided(rt, alloc, PLAIN, fail, &NoGate)?;
     assert!(rt; matches!(found, Err(WriteError::SinkFault)));
     assert!(rt; segments.len() == 1);
     Ok(())
 }
 
 /// Neither column's first call of its compressor goes on until the other's has begun: they run beside each other.
-#[test]
-fn columns_beside_each_other(rt: HostRuntime) -> Result<(), Fail> {
-    let alloc = rt.alloc();
-    let gate = Meeting::new(&rt, 10_000_000);
-    let (found, segments) = by_columns(
-        &rt,
-        alloc,
-        job_of(alloc, COMPRESSED)?,
-        Vec::new(alloc),
-        &gate,
-    )?;
+pub(crate) fn columns_beside_each_other<R: Abort + Threads + Wait + Sync>(
+    rt: &R,
+    alloc: Global,
+) -> Result<(), Fail> {
+    let gate = Meeting::new(rt, 10_000_000);
+    let (found, segments) = divided(rt, alloc, COMPRESSED, Vec::new(alloc), &gate)?;
     assert!(rt; found.is_ok());
     assert!(rt; segments.len() == 4);
     let seen = gate.into_seen();

@@ -1,5 +1,5 @@
 -- The flags of each encoding's rows.
-use Rattle.std.proofs.Common.{◌≡◌, ℕ, zero, suc, ◌+◌, ◌-◌, ◌<◌, Bool, true, false, List, [], ◌∷◌, ◌++◌, length, drop, get_or, map, refl, arith, append_assoc, append-nil, rules}
+use Rattle.std.proofs.Common.{◌≡◌, ℕ, zero, suc, ◌+◌, ◌-◌, ◌<◌, Bool, true, false, List, [], ◌∷◌, ◌++◌, length, drop, get_or, map, refl, ap, arith, append_assoc, append-nil, rules}
 use Rattle.std.specs.Prelude.{replicate, pos, negsuc}
 use Rattle.std.proofs.lemmas.List.{drop_more, map-append}
 use Rattle.std.proofs.lemmas.Bool.{and_parts}
@@ -11,6 +11,7 @@ use Rattle.vx_model.specs.Ty.{Ty, boolean, primitive, utf8, binary, list, struct
 use Rattle.vx_model.specs.CellData.{CellData, null_cell, bool_cell, int_cell, text_cell, bytes_cell, list_cell, struct_cell, fits}
 use Rattle.vx_model.specs.ChunkData.{ChunkData, pieces_of, cells, joined_cells, list_rows, struct_rows, picked, cell_at, is_dict_type}
 use Rattle.vx_chunk_cells.specs.Parts.{row_flags}
+use Rattle.vx_typed.specs.Typed.{typed_cells}
 use Rattle.vx_layout_spec.specs.Parts.{flag_of, elements_of}
 use Rattle.vx_chunk_cells.proofs.Steps.{map-replicate}
 use Rattle.vx_chunk.proofs.Depths.{depth_in}
@@ -101,5 +102,11 @@ ty_flags = search (rules, dt.the_lemmas)
 pub bools_fit : (bs : List Bool) → all_by (fits (boolean false)) (map bool_cell bs) ≡ true
 bools_fit [] = refl
 bools_fit (b ∷ bs) = bools_fit bs
+
+pub all_valid : (bs : List Bool) → typed_cells (λ (b : Bool). bool_cell b) bs [] ≡ map bool_cell bs
+all_valid [] = refl
+all_valid (b ∷ bs) = ap (λ (r : List CellData). bool_cell b ∷ r) (all_valid bs)
+
+pub ruleset chunk_rules = (all_valid, bools_fit, ty_flags)
 
 pub ruleset flag_rules = (append_assoc, append-nil, map-replicate, list_flags, struct_flags, drop_flags, depth_in)

@@ -1,11 +1,13 @@
 -- What soundness says of a node that is of an encoding.
-use Rattle.std.proofs.Common.{◌≡◌, ℕ, Bool, true, subst, map, Box}
+use Rattle.std.proofs.Common.{◌≡◌, ℕ, Bool, true, subst, Box}
 use Rattle.std.specs.Global.{Vec, Global}
 use Rattle.vx_model.specs.declared.dtype.DType.{DType}
 use Rattle.vx_model.specs.declared.cell.Cell.{Cell}
 use Rattle.vx_model.specs.TyView.{ty}
 use Rattle.vx_model.specs.TreeView.{tree}
 use Rattle.vx_model.specs.ChunkData.{ChunkData, pieces_of, is_sound}
+use Rattle.vx_column.specs.declared.column.Column.{Column}
+use Rattle.vx_column.specs.ColumnView.{column_cells}
 use Rattle.vx_chunk.specs.declared.node.Node.{Node}
 use Rattle.vx_chunk.specs.declared.node.Node.TheVariants as nd
 use Rattle.vx_chunk.specs.ChunkView.{node_piece}
@@ -14,8 +16,8 @@ use Rattle.vx_chunk.proofs.Sound.{SoundPlain, of_plain, SoundConstant, of_consta
 sound_at : (m n : Node) → m ≡ n → is_sound (node_piece m) ≡ true → is_sound (node_piece n) ≡ true
 sound_at m n e h = subst (λ k. is_sound (node_piece k) ≡ true) e h
 
-pub in_plain : (n : Node) (t : DType) (cs : Vec Cell) → n ≡ nd.Plain t cs → is_sound (node_piece n) ≡ true → SoundPlain (ty t) (map tree cs.items)
-in_plain n t cs e h = of_plain (ty t) (map tree cs.items) (sound_at n (nd.Plain t cs) e h)
+pub in_plain : (n : Node) (t : DType) (c : Column) → n ≡ nd.Plain t c → is_sound (node_piece n) ≡ true → SoundPlain (ty t) (column_cells c)
+in_plain n t c e h = of_plain (ty t) (column_cells c) (sound_at n (nd.Plain t c) e h)
 
 pub in_constant : (n : Node) (t : DType) (c : Cell) (rows : ℕ) → n ≡ nd.Constant t c rows → is_sound (node_piece n) ≡ true → SoundConstant (ty t) (tree c) rows
 in_constant n t c rows e h = of_constant (ty t) (tree c) rows (sound_at n (nd.Constant t c rows) e h)

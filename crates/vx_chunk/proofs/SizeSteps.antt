@@ -3,13 +3,11 @@ use Rattle.std.proofs.Common.{◌≡◌, ℕ, ◌+◌, ◌-◌, ◌*◌, ◌<◌
 use Rattle.std.specs.Prelude.{◌==◌, if◌then◌else◌}
 use Rattle.std.specs.Global.{Vec, Global}
 use Rattle.std.proofs.lemmas.List.{drop_more, length-map, length-replicate}
-use Rattle.vx_model.specs.declared.cell.Cell.{Cell}
 use Rattle.vx_model.specs.declared.dtype.DType.{DType}
 use Rattle.vx_model.specs.Words.{total_by}
 use Rattle.vx_model.specs.Ty.{nullable}
 use Rattle.vx_model.specs.TyView.{ty}
-use Rattle.vx_model.specs.CellData.{CellData, cell_size}
-use Rattle.vx_model.specs.TreeView.{tree}
+use Rattle.vx_model.specs.CellData.{cell_size}
 use Rattle.vx_model.specs.ChunkData.{ChunkData, pieces_of, piece_type, cells, held, held_parts, picked, validity_size, is_sound}
 use Rattle.vx_chunk.specs.declared.node.Node.{Node}
 use Rattle.vx_chunk.specs.declared.node.Node.TheVariants as nd
@@ -17,11 +15,11 @@ use Rattle.vx_chunk.specs.ChunkView.{node_piece}
 use Rattle.vx_chunk_cells.specs.Window.{window}
 use Rattle.vx_chunk.proofs.NodeSound.{in_list}
 use Rattle.vx_chunk.specs.Sizes.{span_size, span_sizes, each_span_size}
-use Rattle.vx_chunk_cells.proofs.Windows.{window-map, window-replicate}
+use Rattle.vx_chunk_cells.proofs.Windows.{window-all, window-map, window-back, window-replicate, length-window}
 use Rattle.vx_chunk_cells.proofs.Steps.{map-replicate}
 use Rattle.vx_chunk_cells.proofs.SizeSteps.{total_same, total-replicate}
-use Rattle.vx_chunk_cells.proofs.CodeSteps.{tree_int}
-use Rattle.vx_chunk.proofs.RowSteps.{cell_at_in, cell_at-replicate}
+use Rattle.vx_chunk_cells.proofs.CodeSteps.{tree_int, tree_null}
+use Rattle.vx_chunk.proofs.RowSteps.{cell_at_get, cell_at_past, cell_at-replicate, picked_place, drop_window}
 use Rattle.vx_chunk.proofs.Depths.{depth_in}
 
 pub drop_held : (ps : List ChunkData) (i : ℕ) (p : ChunkData) → i < length ps → p ≡ get_or ps i p
@@ -35,10 +33,6 @@ drop_spans ps i from to p lt is = rw (drop_more ps i p lt, ← is) refl
 pub drop_each_span : (ps : List ChunkData) (i from to : ℕ) (p : ChunkData) → i < length ps → p ≡ get_or ps i p
     → each_span_size (pieces_of (drop i ps)) from to ≡ span_size p from to + each_span_size (pieces_of (drop (i + 1) ps)) from to
 drop_each_span ps i from to p lt is = rw (drop_more ps i p lt, ← is) refl
-
-pub drop_picked : (f : CellData → ℕ) (vs : List CellData) (cs : List Cell) (i : ℕ) (c : Cell) → i < length cs → c ≡ get_or cs i c
-    → total_by f (map (picked vs) (map tree (drop i cs))) ≡ f (picked vs (tree c)) + total_by f (map (picked vs) (map tree (drop (i + 1) cs)))
-drop_picked f vs cs i c lt is = rw (drop_more cs i c lt, ← is) refl
 
 -- ---- what a node's sizes are
 
@@ -56,8 +50,8 @@ pub dict_span : (n : Node) (codes values : Box ChunkData Global) (from to : ℕ)
     → span_size (node_piece n) from to ≡ total_by (cell_size (piece_type values.value)) (map (picked (cells values.value)) (window from to (cells codes.value)))
 dict_span n codes values from to e = rw e refl
 
-pub ruleset held_rules = (drop_held, depth_in)
+pub ruleset held_rules = (drop_held, window-all, depth_in)
 
 pub ruleset span_rules = (window-map, drop_spans, drop_each_span, depth_in)
 
-pub ruleset value_rules = (drop_picked, total_same, total-replicate, map-replicate, window-map, window-replicate, length-map, length-replicate, cell_at_in, cell_at-replicate, tree_int)
+pub ruleset value_rules = (drop_window, window-back, total_same, total-replicate, map-replicate, window-map, window-replicate, length-map, length-replicate, length-window, picked_place, cell_at_get, cell_at_past, cell_at-replicate, tree_null, tree_int)

@@ -14,7 +14,7 @@ most_is [] = omega arith
 most_is (p ∷ ps) = omega (arith, most_is ps)
 
 pub depth_falls : (n : Node) → max (deep-Node n) 0 ≤ depth (node_piece n)
-depth_falls (Plain dtype cells) = omega arith
+depth_falls (Plain dtype column) = omega arith
 depth_falls (Constant dtype cell rows) = omega arith
 depth_falls (Dict codes values) = omega arith
 depth_falls (Chunked dtype parts) = omega (arith, most_is parts.items)

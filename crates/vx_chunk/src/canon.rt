@@ -16,6 +16,6 @@ impl Chunk {
         self.sound();
         let cells = self.cells(alloc)?;
         let dtype = self.dtype().clone()?;
-        Ok(Chunk::plain(dtype, cells))
+        Ok(Chunk::typed(alloc, dtype, cells)?)
     }
 }

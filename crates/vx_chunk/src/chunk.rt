@@ -5,13 +5,15 @@ ghost use Rattle.vx_model.specs.Words.{all_by};
 ghost use Rattle.vx_model.specs.CellData.{fits};
 ghost use Rattle.vx_model.specs.TyView.{ty};
 ghost use Rattle.vx_model.specs.TreeView.{tree};
+ghost use Rattle.vx_column.specs.ColumnView.{column_cells};
 ghost use Rattle.vx_model.specs.ChunkData.{plain_piece, constant_piece, dict_piece, chunked_piece, list_piece, struct_piece, extension_piece, pieces_of, joined_cells, are_parts, has_storage, piece_type};
 ghost use Rattle.vx_chunk.specs.Conditions.{makes_dict, makes_list, makes_struct, IsPast};
 
 use crate::error::ChunkError;
 use crate::node::{Chunk, Node};
 use crate::reads::{all_sound, total_rows};
-use std::alloc::Global;
+use std::alloc::{AllocError, Global};
+use vx_column::Column;
 use vx_model::{Cell, DType};
 
 impl Chunk {
@@ -21,7 +23,35 @@ impl Chunk {
         ensures { result ≡ plain_piece (ty dtype) (map tree cells.items) }
     {
         Chunk {
-            node: Node::Plain { dtype, cells },
+            node: Node::Plain {
+                dtype,
+                column: Column::Cells(cells),
+            },
+        }
+    }
+
+    /// The rows of a column. `vx_model::fits` tests the condition of cells.
+    pub fn column(dtype: DType, column: Column) -> Chunk
+        requires { IsTrue (all_by (fits (ty dtype)) (column_cells column)) }
+        ensures { result ≡ plain_piece (ty dtype) (column_cells column) }
+    {
+        let _rows = column.len();
+        Chunk {
+            node: Node::Plain { dtype, column },
+        }
+    }
+
+    /// The rows as typed values where the type has them, else as cells. `vx_model::fits` tests the condition.
+    pub fn typed(alloc: Global, dtype: DType, cells: Vec<Cell>) -> Result<Chunk, AllocError>
+        requires { IsTrue (all_by (fits (ty dtype)) (map tree cells.items)) }
+        ensures { IfOk result (λ c. c ≡ plain_piece (ty dtype) (map tree cells.items)) }
+    {
+        match Column::from_cells(alloc, &dtype, cells) {
+            Ok(column) => Ok(Chunk::column(dtype, column)),
+            Err(error) => {
+                drop(dtype);
+                Err(error)
+            }
         }
     }
 
@@ -35,7 +65,7 @@ impl Chunk {
         }
     }
 
-    /// Row i is the value whose place is code i. `conditions::makes_dict` tests the condition.
+    /// Row i is the value whose place is code i. `vx_chunk_conditions::makes_dict` tests the condition.
     pub fn dict(alloc: Global, codes: Chunk, values: Chunk) -> Result<Chunk, ChunkError>
         requires { IsTrue (makes_dict codes values) }
         ensures ok { IfOk result (λ c. c ≡ dict_piece codes values) }
@@ -57,7 +87,7 @@ impl Chunk {
         }
     }
 
-    /// The rows of the parts, joined; takes no memory. `conditions::are_parts` tests the condition.
+    /// The rows of the parts, joined; takes no memory. `vx_chunk_conditions::are_parts` tests the condition.
     pub fn chunked(dtype: DType, parts: Vec<Chunk>) -> Result<Chunk, ChunkError>
         requires { IsTrue (are_parts (ty dtype) parts.items) }
         ensures ok { IfOk result (λ c. c ≡ chunked_piece (ty dtype) (pieces_of parts.items)) }
@@ -75,7 +105,7 @@ impl Chunk {
         })
     }
 
-    /// Row i has the elements from offset i to offset i + 1. `conditions::makes_list` tests the condition.
+    /// Row i has the elements from offset i to offset i + 1. `vx_chunk_conditions::makes_list` tests the condition.
     pub fn list(
         alloc: Global,
         dtype: DType,
@@ -99,7 +129,7 @@ impl Chunk {
         })
     }
 
-    /// Row i has cell i of each field; takes no memory. `conditions::makes_struct` tests the condition.
+    /// Row i has cell i of each field; takes no memory. `vx_chunk_conditions::makes_struct` tests the condition.
     pub fn strukt(dtype: DType, fields: Vec<Chunk>, valid: Vec<bool>, rows: u64) -> Chunk
         requires { IsTrue (makes_struct (ty dtype) fields.items valid.items rows) }
         ensures { result ≡ struct_piece (ty dtype) (pieces_of fields.items) valid.items rows }

@@ -14,7 +14,7 @@ use vx_model::DType;
 
 impl Chunk {
     /// The rows of the chunks, joined: chunked, with the parts of chunked ones in their places. Nothing is copied.
-    /// `conditions::are_of_type` tests the condition.
+    /// `vx_chunk_conditions::are_of_type` tests the condition.
     pub fn concat(alloc: Global, dtype: DType, parts: Vec<Chunk>) -> Result<Chunk, ChunkError>
         requires { IsTrue (are_of_type (ty dtype) parts.items) }
         ensures chunked { IfOk result (λ c. c ≡ chunked_piece (ty dtype) (pieces_of (all_parts parts.items))) }

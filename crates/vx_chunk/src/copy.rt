@@ -1,11 +1,10 @@
-//! Copies of chunks.
+//! Copies of chunks. Typed values are shared.
 
 ghost use Rattle.std.specs.Prelude.{◌≡◌, IfOk};
 ghost use Rattle.vx_chunk.specs.ChunkView.{node_piece};
 
 use crate::node::{Chunk, Node};
 use std::alloc::AllocError;
-use vx_chunk_cells::copy_cells;
 
 impl Clone for Chunk {
     ghost is_clone = { λ c copy. copy ≡ c };
@@ -30,8 +29,8 @@ fn copy_node(node: &Node) -> Result<Node, AllocError>
     ensures { IfOk result (λ n. node_piece n ≡ node_piece node.now) }
 {
     match node {
-        Node::Plain { dtype, cells } => Ok(Node::Plain {
-            cells: copy_cells(*cells.allocator(), cells)?,
+        Node::Plain { dtype, column } => Ok(Node::Plain {
+            column: column.clone()?,
             dtype: dtype.clone()?,
         }),
         Node::Constant { dtype, cell, rows } => Ok(Node::Constant {

@@ -17,8 +17,7 @@ use crate::node::{Chunk, Node};
 use crate::rows::push_between;
 use std::alloc::{AllocError, Global};
 use vx_chunk_cells::{
-    copied_elements, count_elements, cover, items_of, push_apart, push_copies_apart, push_counted,
-    push_same_offset, span_len,
+    copied_elements, cover, items_of, push_copies_apart, push_counted, push_same_offset, span_len,
 };
 use vx_model::Cell;
 
@@ -45,7 +44,7 @@ impl Chunk {
         push_lists_apart(self, &mut elements, &mut offsets)?;
         let valid = flags(self, alloc)?;
         let dtype = items_of(self.dtype()).clone()?;
-        Ok((Chunk::plain(dtype, elements), offsets, valid))
+        Ok((Chunk::typed(alloc, dtype, elements)?, offsets, valid))
     }
 
     /// The same parts. Plain elements of which each stands in a row are moved, with their offsets, where these begin at
@@ -113,7 +112,7 @@ fn element_count(chunk: &Chunk) -> u128
     ensures bound { result ≤ length (cells_in chunk.now) * (2 ^ 64 - 1) }
 {
     match &chunk.node {
-        Node::Plain { cells, .. } => count_elements(cells),
+        Node::Plain { column, .. } => column.count_elements(),
         Node::Constant { cell, rows, .. } => copied_elements(cell, *rows),
         Node::Dict { .. } | Node::Struct { .. } => 0,
         Node::Chunked { parts, .. } => elements_in(parts),
@@ -148,7 +147,7 @@ fn push_lists_apart(
     ensures offsets { OnOk result (offsets.new.items ≡ offsets.old.items ++ ends (length elements.old.items) (cells_in chunk.now)) }
 {
     match &chunk.node {
-        Node::Plain { cells, .. } => push_apart(cells, elements, offsets),
+        Node::Plain { column, .. } => column.push_apart(elements, offsets),
         Node::Constant { cell, rows, .. } => push_copies_apart(cell, *rows, elements, offsets),
         Node::Dict { codes, .. } => {
             push_same_offset(elements.len() as u64, codes.len(), offsets)

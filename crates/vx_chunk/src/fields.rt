@@ -34,7 +34,7 @@ impl Chunk {
     }
 
     /// The fields as `fields` gives them: its own chunks where it is held as a struct are moved, and so are the cells
-    /// that `into_cells` moves.
+    /// that `into_cells` moves, where their type has no typed values.
     pub fn into_fields(self, alloc: Global) -> Result<Vec<Chunk>, ChunkError>
         requires { IsTrue (is_struct (piece_type self)) }
         ensures fields { IfOk result (λ v. v.items ≡ field_pieces (struct_fields (piece_type self)) self) }
@@ -80,7 +80,7 @@ impl Chunk {
     }
 }
 
-/// A plain chunk of each field of the structs.
+/// A plain chunk of each field of the structs, of typed values where the field's type has them.
 fn field_columns(alloc: Global, dtype: &DType, cells: Vec<Cell>) -> Result<Vec<Chunk>, AllocError>
     requires structs { IsTrue (is_struct (ty dtype.now)) }
     requires fit { IsTrue (all_by (fits (ty dtype.now)) (map tree cells.items)) }
@@ -105,7 +105,7 @@ fn typed(
     let mut i = 0;
     for column in columns {
         let dtype = types[i].dtype.clone()?;
-        chunks.push(Chunk::plain(dtype, column))?;
+        chunks.push(Chunk::typed(alloc, dtype, column)?)?;
         i += 1;
     }
     Ok(chunks)

@@ -1,15 +1,18 @@
 //! Which rows of lists and structs are valid.
 
-ghost use Rattle.std.specs.Prelude.{◌≡◌, ◌++◌, map, IsTrue, IfOk, IfErr, OnOk};
-ghost use Rattle.vx_model.specs.Ty.{is_struct};
-ghost use Rattle.vx_model.specs.ChunkData.{piece_type, pieces_of, cells as cells_in, joined_cells};
+ghost use Rattle.std.specs.Prelude.{◌≡◌, ◌++◌, false, map, IsTrue, IfOk, IfErr, OnOk};
+ghost use Rattle.vx_model.specs.Ty.{boolean, is_struct};
+ghost use Rattle.vx_model.specs.CellData.{bool_cell};
+ghost use Rattle.vx_model.specs.ChunkData.{piece_type, pieces_of, plain_piece, cells as cells_in, joined_cells};
 ghost use Rattle.vx_layout_spec.specs.Parts.{flag_of as is_valid, validity_piece};
 
 use crate::error::ChunkError;
 use crate::node::{Chunk, Node};
 use std::alloc::{AllocError, Global};
-use vx_chunk_cells::{bool_cells, flag_of, push_flags, push_row_flags, push_same_flag};
+use vx_chunk_cells::{flag_of, push_row_flags, push_same_flag};
+use vx_column::{AnyLeaves, Column};
 use vx_model::{DType, Nullability};
+use vx_typed::Leaves;
 
 impl Chunk {
     /// One Bool a row of a struct chunk, plain: whether the row is valid, all true where the type isn't nullable.
@@ -19,9 +22,18 @@ impl Chunk {
         ensures memory { IfErr result (λ e. e ≡ ChunkError.OutOfMemory) }
     {
         let flags = flags(self, alloc)?;
-        let cells = bool_cells(alloc, &flags)?;
-        Ok(Chunk::plain(DType::Bool(Nullability::NonNullable), cells))
+        Ok(flag_chunk(alloc, flags)?)
     }
+}
+
+/// A plain chunk of the flags, which are moved.
+#[tactic(auto, using(crate::proofs::FlagSteps::chunk_rules))]
+pub fn flag_chunk(alloc: Global, flags: Vec<bool>) -> Result<Chunk, AllocError>
+    ensures { IfOk result (λ c. c ≡ plain_piece (boolean false) (map bool_cell flags.items)) }
+{
+    let leaves = Leaves::new(alloc, flags)?;
+    let column = Column::Leaves(AnyLeaves::Bool(leaves));
+    Ok(Chunk::column(DType::Bool(Nullability::NonNullable), column))
 }
 
 /// A flag a row: whether it is no invalid list or struct.
@@ -40,7 +52,7 @@ fn push_valid(chunk: &Chunk, out: &mut Vec<bool>) -> Result<(), AllocError>
     ensures { OnOk result (out.new.items ≡ out.old.items ++ map is_valid (cells_in chunk.now)) }
 {
     match &chunk.node {
-        Node::Plain { cells, .. } => push_flags(cells, out),
+        Node::Plain { column, .. } => column.push_flags(out),
         Node::Constant { cell, rows, .. } => push_same_flag(flag_of(cell), *rows, out),
         Node::Dict { codes, .. } => push_same_flag(true, codes.len(), out),
         Node::Chunked { parts, .. } => push_parts_valid(parts, out),

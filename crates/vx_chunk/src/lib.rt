@@ -4,7 +4,6 @@
 mod canon;
 mod chunk;
 mod concat;
-pub mod conditions;
 mod copy;
 mod elements;
 mod error;
@@ -21,6 +20,7 @@ mod values;
 mod whole;
 
 pub use error::ChunkError;
+pub use flags::flag_chunk;
 pub use laws::{rows_follow_cells, sizes_add_up};
 pub use node::{Chunk, Node};
 pub use reads::all_sound;

@@ -1,16 +1,17 @@
 //! How a chunk's rows are held.
 
 use std::marker::Model;
+use vx_column::Column;
 use vx_model::{Cell, DType};
 
 /// How rows are held. A list or a struct that isn't nullable has no flags.
 #[derive(Drop)]
 #[cycle(chunk)]
 pub enum Node {
-    /// The cells themselves.
+    /// The rows themselves, typed values or cells.
     Plain {
         dtype: DType,
-        cells: Vec<Cell>,
+        column: Column,
     },
     /// One cell, once a row.
     Constant {

@@ -1,8 +1,8 @@
 //! What a chunk tells at once.
 
-ghost use Rattle.std.specs.Prelude.{◌≡◌, length, map, is_some, IfSome, IsTrue};
+ghost use Rattle.std.specs.Prelude.{◌≡◌, length, is_some, IfSome, IsTrue};
 ghost use Rattle.vx_model.specs.TyView.{ty};
-ghost use Rattle.vx_model.specs.TreeView.{tree};
+ghost use Rattle.vx_column.specs.ColumnView.{column_cells};
 ghost use Rattle.vx_model.specs.ChunkData.{piece_type, pieces_of, cells, joined_cells, is_sound, are_sound, is_simple, is_chunked};
 ghost use Rattle.vx_chunk.specs.ChunkView.{node_piece};
 ghost use Rattle.vx_chunk.specs.Encoded.{encoding_of};
@@ -10,7 +10,8 @@ ghost use Rattle.vx_chunk.specs.Parts.{keeps_cells};
 
 use crate::node::{Chunk, Node};
 use std::fmt;
-use vx_model::{Cell, DType, EncodingId};
+use vx_column::Column;
+use vx_model::{DType, EncodingId};
 
 impl Chunk {
     /// How the rows are held.
@@ -35,7 +36,7 @@ impl Chunk {
         ensures sound { IsTrue (is_sound self.now) }
     {
         match &self.node {
-            Node::Plain { cells, .. } => cells.len() as u64,
+            Node::Plain { column, .. } => column.len() as u64,
             Node::Constant { rows, .. } | Node::Struct { rows, .. } => *rows,
             Node::Dict { codes, .. } => codes.len(),
             Node::Chunked { parts, .. } => {
@@ -62,14 +63,14 @@ impl Chunk {
         }
     }
 
-    /// The rows where they are held as cells: those of a plain chunk, and of an extension over such a chunk.
-    pub fn as_cells(&self) -> Option<&[Cell]>
-        ensures cells { IfSome result (λ cs. map tree cs.now ≡ cells self.now) }
+    /// The rows where they are held as a column: those of a plain chunk, and of an extension over such a chunk.
+    pub fn as_column(&self) -> Option<&Column>
+        ensures cells { IfSome result (λ c. column_cells c.now ≡ cells self.now) }
         ensures kept { is_some result ≡ keeps_cells self.now }
     {
         match &self.node {
-            Node::Plain { cells, .. } => Some(cells),
-            Node::Extension { storage, .. } => storage.as_cells(),
+            Node::Plain { column, .. } => Some(column),
+            Node::Extension { storage, .. } => storage.as_column(),
             Node::Constant { .. } | Node::Dict { .. } | Node::Chunked { .. } => None,
             Node::List { .. } | Node::Struct { .. } => None,
         }

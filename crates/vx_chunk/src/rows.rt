@@ -4,15 +4,16 @@ ghost use Rattle.std.specs.Prelude.{◌≡◌, ◌++◌, ◌≤◌, ◌-◌, len
 ghost use Rattle.vx_model.specs.TreeView.{tree};
 ghost use Rattle.vx_model.specs.ChunkData.{pieces_of, cells as cells_in, joined_cells, list_rows, struct_rows, picked, is_simple, are_offsets};
 ghost use Rattle.vx_chunk_cells.specs.Window.{window};
-ghost use Rattle.vx_chunk.specs.Rows.{have_rows, column};
+ghost use Rattle.vx_column.specs.ColumnView.{column_cells};
+ghost use Rattle.vx_chunk.specs.Rows.{have_rows, column, value_at};
 
 use crate::error::ChunkError;
 use crate::node::{Chunk, Node};
 use std::alloc::{AllocError, Global};
 use vx_chunk_cells::{
-    empty_rows, flags_from, is_code, offsets_between, push_cells, push_copies, push_each,
-    push_lists, push_structs,
+    empty_rows, flags_from, offsets_between, push_copies, push_each, push_lists, push_structs,
 };
+use vx_column::{Column, place_of};
 use vx_model::Cell;
 
 impl Chunk {
@@ -56,7 +57,7 @@ pub(crate) fn push_between(
     ensures { OnOk result (map tree out.new.items ≡ map tree out.old.items ++ window from to (cells_in chunk.now)) }
 {
     match &chunk.node {
-        Node::Plain { cells, .. } => push_cells(&cells[from as usize..to as usize], out),
+        Node::Plain { column, .. } => column.push_between(from, to, out),
         Node::Constant { cell, .. } => push_copies(cell, to - from, out),
         Node::Dict { codes, values } => push_values(codes, values, from, to, out),
         Node::Chunked { parts, .. } => push_parts(parts, from, to, out),
@@ -154,38 +155,51 @@ fn push_values(
     ensures { OnOk result (map tree out.new.items ≡ map tree out.old.items ++ map (picked (cells_in values.now)) (window from to (cells_in codes.now))) }
 {
     match &codes.node {
-        Node::Plain { cells, .. } => push_picked(values, &cells[from as usize..to as usize], out),
-        Node::Constant { cell, .. } => push_copies(&pick(values, cell)?, to - from, out),
+        Node::Plain { column, .. } => push_picked(values, column, from, to, out),
+        Node::Constant { cell, .. } => {
+            let alloc = *out.allocator();
+            push_copies(&pick(values, alloc, place_of(cell))?, to - from, out)
+        }
         Node::Dict { .. } | Node::Chunked { .. } | Node::List { .. } => unreachable!(),
         Node::Struct { .. } | Node::Extension { .. } => unreachable!(),
     }
 }
 
-#[tactic(auto, using(crate::proofs::RowSteps::row_rules))]
-fn push_picked(values: &Chunk, codes: &[Cell], out: &mut Vec<Cell>) -> Result<(), AllocError>
-    requires { IsTrue (is_simple values.now) }
-    ensures { OnOk result (map tree out.new.items ≡ map tree out.old.items ++ map (picked (cells_in values.now)) (map tree codes.now)) }
+/// The values at the codes of rows `from` to `to` of the column.
+#[tactic(auto, using(crate::proofs::RowSteps::pick_rules))]
+fn push_picked(
+    values: &Chunk,
+    codes: &Column,
+    from: u64,
+    to: u64,
+    out: &mut Vec<Cell>,
+) -> Result<(), AllocError>
+    requires values { IsTrue (is_simple values.now) }
+    requires order { from ≤ to }
+    requires within { to ≤ length (column_cells codes.now) }
+    ensures { OnOk result (map tree out.new.items ≡ map tree out.old.items ++ map (picked (cells_in values.now)) (window from to (column_cells codes.now))) }
 {
-    for code in codes {
-        out.push(pick(values, code)?)?;
+    let alloc = *out.allocator();
+    for row in from..to {
+        out.push(pick(values, alloc, codes.place(row as usize))?)?;
     }
     Ok(())
 }
 
-/// The value at a code; null where it is none.
-#[tactic(auto, using(crate::proofs::RowSteps::row_rules))]
-fn pick(values: &Chunk, code: &Cell) -> Result<Cell, AllocError>
+/// The value at a place; null where there is none.
+#[tactic(auto, using(crate::proofs::RowSteps::pick_rules))]
+fn pick(values: &Chunk, alloc: Global, place: Option<u128>) -> Result<Cell, AllocError>
     requires { IsTrue (is_simple values.now) }
-    ensures { IfOk result (λ c. tree c ≡ picked (cells_in values.now) (tree code.now)) }
+    ensures { IfOk result (λ c. tree c ≡ value_at (cells_in values.now) place) }
 {
-    let Cell::Int(place) = code else {
+    let Some(place) = place else {
         return Ok(Cell::Null);
     };
-    if !is_code(code, values.len()) {
+    if place >= u128::from(values.len()) {
         return Ok(Cell::Null);
     }
     match &values.node {
-        Node::Plain { cells, .. } => cells[*place as usize].clone(),
+        Node::Plain { column, .. } => column.get(alloc, place as usize),
         Node::Constant { cell, .. } => cell.clone(),
         Node::Dict { .. } | Node::Chunked { .. } | Node::List { .. } => unreachable!(),
         Node::Struct { .. } | Node::Extension { .. } => unreachable!(),

@@ -3,16 +3,17 @@
 ghost use Rattle.std.specs.Prelude.{◌≡◌, ◌↔◌, ◌<◌, ◌≤◌, ◌^◌, ◌-◌, ◌*◌, min, length, map, IsTrue, IsOk, IfOk, IfErr};
 ghost use Rattle.vx_model.specs.Words.{total_by, head_or};
 ghost use Rattle.vx_model.specs.CellData.{cell_size as size_of};
-ghost use Rattle.vx_model.specs.TreeView.{tree};
 ghost use Rattle.vx_model.specs.ChunkData.{piece_type, pieces_of, cells as cells_in, picked, row_size, held, held_parts, is_simple, are_offsets};
 ghost use Rattle.vx_chunk_cells.specs.Window.{window, last_of};
+ghost use Rattle.vx_column.specs.ColumnView.{column_cells};
 ghost use Rattle.vx_chunk.specs.Conditions.{IsPast, IsFarPast};
-ghost use Rattle.vx_chunk.specs.Rows.{have_rows};
+ghost use Rattle.vx_chunk.specs.Rows.{have_rows, value_at};
 ghost use Rattle.vx_chunk.specs.Sizes.{span_size, span_sizes, each_span_size};
 
 use crate::error::ChunkError;
 use crate::node::{Chunk, Node};
-use vx_chunk_cells::{cell_size, cells_size, is_code, null_byte, offsets_between, times};
+use vx_chunk_cells::{cell_size, null_byte, offsets_between, times};
+use vx_column::{Column, place_of};
 use vx_model::Cell;
 
 impl Chunk {
@@ -54,7 +55,7 @@ fn held_bytes(chunk: &Chunk) -> u128
     ensures { result ≡ min (held chunk.now) (2 ^ 128 - 1) }
 {
     match &chunk.node {
-        Node::Plain { dtype, cells } => cells_size(dtype, cells),
+        Node::Plain { dtype, column } => column.size_between(dtype, 0, column.len() as u64),
         Node::Constant { dtype, cell, .. } => cell_size(dtype, cell),
         Node::Dict { codes, values } => held_bytes(codes).saturating_add(held_bytes(values)),
         Node::Chunked { parts, .. } => all_held(parts),
@@ -97,7 +98,7 @@ fn span_bytes(chunk: &Chunk, from: u64, to: u64) -> u128
     ensures { result ≡ min (span_size chunk.now from to) (2 ^ 128 - 1) }
 {
     match &chunk.node {
-        Node::Plain { dtype, cells } => cells_size(dtype, &cells[from as usize..to as usize]),
+        Node::Plain { dtype, column } => column.size_between(dtype, from, to),
         Node::Constant { dtype, cell, .. } => times(to - from, cell_size(dtype, cell)),
         Node::Dict { codes, values } => values_bytes(codes, values, from, to),
         Node::Chunked { parts, .. } => parts_bytes(parts, from, to),
@@ -171,42 +172,46 @@ fn values_bytes(codes: &Chunk, values: &Chunk, from: u64, to: u64) -> u128
     ensures { result ≡ min (total_by (size_of (piece_type values.now)) (map (picked (cells_in values.now)) (window from to (cells_in codes.now)))) (2 ^ 128 - 1) }
 {
     match &codes.node {
-        Node::Plain { cells, .. } => picked_bytes(values, &cells[from as usize..to as usize]),
-        Node::Constant { cell, .. } => times(to - from, value_bytes(values, cell)),
+        Node::Plain { column, .. } => picked_bytes(values, column, from, to),
+        Node::Constant { cell, .. } => times(to - from, value_bytes(values, place_of(cell))),
         Node::Dict { .. } | Node::Chunked { .. } | Node::List { .. } => unreachable!(),
         Node::Struct { .. } | Node::Extension { .. } => unreachable!(),
     }
 }
 
+/// The values at the codes of rows `from` to `to` of the column.
 #[tactic(auto, using(crate::proofs::SizeSteps::value_rules))]
-fn picked_bytes(values: &Chunk, codes: &[Cell]) -> u128
-    requires { IsTrue (is_simple values.now) }
-    ensures { result ≡ min (total_by (size_of (piece_type values.now)) (map (picked (cells_in values.now)) (map tree codes.now))) (2 ^ 128 - 1) }
+fn picked_bytes(values: &Chunk, codes: &Column, from: u64, to: u64) -> u128
+    requires values { IsTrue (is_simple values.now) }
+    requires order { from ≤ to }
+    requires within { to ≤ length (column_cells codes.now) }
+    ensures { result ≡ min (total_by (size_of (piece_type values.now)) (map (picked (cells_in values.now)) (window from to (column_cells codes.now)))) (2 ^ 128 - 1) }
 {
     if let Some(size) = values.dtype().element_size() {
-        return times(codes.len() as u64, u128::from(size));
+        return times(to - from, u128::from(size));
     }
     let mut total: u128 = 0;
-    for code in codes {
-        total = total.saturating_add(value_bytes(values, code));
+    for row in from..to {
+        total = total.saturating_add(value_bytes(values, codes.place(row as usize)));
     }
     total
 }
 
-/// The value at a code; null where it is none.
+/// The value at a place; null where there is none.
 #[tactic(auto, using(crate::proofs::SizeSteps::value_rules))]
-fn value_bytes(values: &Chunk, code: &Cell) -> u128
+fn value_bytes(values: &Chunk, place: Option<u128>) -> u128
     requires { IsTrue (is_simple values.now) }
-    ensures { result ≡ min (size_of (piece_type values.now) (picked (cells_in values.now) (tree code.now))) (2 ^ 128 - 1) }
+    ensures { result ≡ min (size_of (piece_type values.now) (value_at (cells_in values.now) place)) (2 ^ 128 - 1) }
 {
-    let Cell::Int(place) = code else {
+    let Some(place) = place else {
         return cell_size(values.dtype(), &Cell::Null);
     };
-    if !is_code(code, values.len()) {
+    if place >= u128::from(values.len()) {
         return cell_size(values.dtype(), &Cell::Null);
     }
+    let place = place as u64;
     match &values.node {
-        Node::Plain { cells, .. } => cell_size(values.dtype(), &cells[*place as usize]),
+        Node::Plain { dtype, column } => column.size_between(dtype, place, place + 1),
         Node::Constant { cell, .. } => cell_size(values.dtype(), cell),
         Node::Dict { .. } | Node::Chunked { .. } | Node::List { .. } => unreachable!(),
         Node::Struct { .. } | Node::Extension { .. } => unreachable!(),

@@ -5,7 +5,7 @@ ghost use Rattle.vx_model.specs.ChunkData.{pieces_of};
 ghost use Rattle.vx_layout_spec.specs.Real.{is_real, are_real, Whole};
 
 use crate::node::{Chunk, Node};
-use vx_chunk_cells::{real_cell, real_cells};
+use vx_chunk_cells::real_cell;
 
 impl Chunk {
     /// Changes nothing and takes no memory; tells a caller's proof that the chunk is whole. Looks at each cell that the
@@ -24,7 +24,7 @@ fn real(chunk: &Chunk)
     ensures { IsTrue (is_real chunk.now) }
 {
     match &chunk.node {
-        Node::Plain { cells, .. } => real_cells(cells),
+        Node::Plain { column, .. } => column.real(),
         Node::Constant { cell, .. } => real_cell(cell),
         Node::Dict { codes, values } => {
             real(codes);

@@ -5,7 +5,7 @@ use anyhow::{Context, bail};
 use std::alloc::{AllocError, Global};
 use vx_case_lines::Answer;
 use vx_chunk::Chunk;
-use vx_chunk::conditions::are_of_type;
+use vx_chunk_conditions::are_of_type;
 use vx_encodings::all_encodings;
 use vx_model::{DType, Value, is_row_value};
 use vx_segment_writer::encode_segment;

@@ -5,6 +5,7 @@ use serde_json::Value as Json;
 use std::alloc::{AllocError, Global};
 use vx_case_lines::Answer;
 use vx_chunk::{Chunk, ChunkError};
+use vx_column::Column;
 use vx_model::{Cell, Value};
 
 /// Values as the program's report shows a row that is a list.
@@ -98,9 +99,9 @@ pub(crate) fn push_own_cells(
 }
 
 pub(crate) fn push_cells_of(alloc: Global, answer: &mut Answer, chunk: &Chunk) {
-    match chunk.as_cells() {
-        Some(cells) => push_listed(alloc, answer, cells),
-        None => push_own_cells(alloc, answer, chunk.cells(alloc)),
+    match chunk.as_column() {
+        Some(Column::Cells(cells)) => push_listed(alloc, answer, cells),
+        _ => push_own_cells(alloc, answer, chunk.cells(alloc)),
     }
 }
 

@@ -14,8 +14,9 @@ ghost use Rattle.vx_json.specs.Views.{Gives};
 use crate::cells::{read_cell, read_cells};
 use serde_json::{Map, Value};
 use std::alloc::Global;
-use vx_chunk::{Chunk, ChunkError, conditions};
+use vx_chunk::{Chunk, ChunkError};
 use vx_chunk_cells::has_storage;
+use vx_chunk_conditions::{are_parts, makes_dict, makes_list, makes_struct};
 use vx_json::{JsonError, array_at, member, number_at};
 use vx_model::{DType, Nullability, PType};
 
@@ -24,7 +25,7 @@ pub(crate) fn read_plain(alloc: Global, dtype: &DType, values: &[Value]) -> Resu
     ensures { Gives (λ c. c) result (plain_of (ty dtype.now) (each (cell_of (ty dtype.now)) (items_view values.now))) }
 {
     let cells = read_cells(alloc, dtype, values)?;
-    Ok(Chunk::plain(dtype.clone()?, cells))
+    Ok(Chunk::typed(alloc, dtype.clone()?, cells)?)
 }
 
 #[tactic(auto, using(crate::proofs::ChunkFits::fit_rules), unfolding(crate::specs::Chunks::constant_of))]
@@ -94,7 +95,7 @@ fn made(chunk: Result<Chunk, ChunkError>) -> Result<Chunk, JsonError>
 pub(crate) fn make_dict(alloc: Global, places: Chunk, values: Chunk) -> Result<Chunk, JsonError>
     ensures { Gives (λ c. c) result (dict_of (Some places) (Some values)) }
 {
-    if !conditions::makes_dict(&places, &values) {
+    if !makes_dict(&places, &values) {
         drop(places);
         drop(values);
         return Err(JsonError::Wrong);
@@ -106,7 +107,7 @@ pub(crate) fn make_dict(alloc: Global, places: Chunk, values: Chunk) -> Result<C
 pub(crate) fn make_chunked(dtype: &DType, parts: Vec<Chunk>) -> Result<Chunk, JsonError>
     ensures { Gives (λ c. c) result (chunked_of (ty dtype.now) (Some parts.items)) }
 {
-    if !conditions::are_parts(dtype, &parts) {
+    if !are_parts(dtype, &parts) {
         return Err(JsonError::Wrong);
     }
     made(Chunk::chunked(dtype.clone()?, parts))
@@ -122,7 +123,7 @@ pub(crate) fn make_list(
 ) -> Result<Chunk, JsonError>
     ensures { Gives (λ c. c) result (list_of (ty dtype.now) (Some elements) (Some offsets.items) (Some valid.items)) }
 {
-    if !conditions::makes_list(dtype, &elements, &offsets, &valid) {
+    if !makes_list(dtype, &elements, &offsets, &valid) {
         drop(elements);
         return Err(JsonError::Wrong);
     }
@@ -144,7 +145,7 @@ pub(crate) fn make_struct(
 ) -> Result<Chunk, JsonError>
     ensures { Gives (λ c. c) result (struct_of (ty dtype.now) (Some fields.items) (Some valid.items) (Some rows)) }
 {
-    if !conditions::makes_struct(dtype, &fields, &valid, rows) {
+    if !makes_struct(dtype, &fields, &valid, rows) {
         return Err(JsonError::Wrong);
     }
     Ok(Chunk::strukt(dtype.clone()?, fields, valid, rows))

@@ -6,7 +6,8 @@ use Rattle.vx_model.specs.Words.{all_by}
 use Rattle.vx_model.specs.CellData.{CellData, null_cell, bool_cell, int_cell, text_cell, bytes_cell, list_cell, struct_cell}
 use Rattle.vx_layout_spec.specs.Real.{is_real_cell}
 use Rattle.vx_layout_spec.specs.Parts.{flag_of, elements_of, all_elements, ends}
-use Rattle.vx_typed.specs.Typed.{is_leaf, is_string}
+use Rattle.vx_typed.specs.Typed.{is_leaf}
+use Rattle.vx_strings.specs.StringCells.{is_string}
 use Rattle.vx_column.specs.ColumnView.{place_of}
 
 -- what holds of such a cell

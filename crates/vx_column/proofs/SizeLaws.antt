@@ -8,8 +8,8 @@ use Rattle.vx_model.specs.CellData.{CellData, null_cell, bool_cell, int_cell, te
 use Rattle.vx_layout_spec.proofs.CellsFit.{all_take, all_drop}
 use Rattle.vx_chunk_cells.specs.Window.{window}
 use Rattle.vx_chunk_cells.proofs.Windows.{length-window}
-use Rattle.vx_typed.specs.Typed.{is_leaf, is_string}
-use Rattle.vx_typed.specs.StringCells.{string_length}
+use Rattle.vx_typed.specs.Typed.{is_leaf}
+use Rattle.vx_strings.specs.StringCells.{is_string, string_length}
 use Rattle.vx_column.specs.ColumnView.{has_strings}
 
 -- ---- numbers and Bools

@@ -3,14 +3,15 @@
 ghost use Rattle.std.specs.Prelude.{◌≡◌, ◌≤◌, ◌++◌, length, map, IfOk, IfSome, OnOk};
 ghost use Rattle.vx_model.specs.TreeView.{tree};
 ghost use Rattle.vx_chunk_cells.specs.Window.{window};
-ghost use Rattle.vx_column.specs.ColumnView.{leaf_cells, column_cells};
+ghost use Rattle.vx_column.specs.ColumnView.{column_cells};
 
 use crate::column::Column;
 use crate::leaves::AnyLeaves;
 use std::alloc::{AllocError, Global};
 use vx_chunk_cells::push_cells;
 use vx_model::{Cell, DType, PType};
-use vx_typed::{Leaves, StringKind, Strings};
+use vx_strings::{StringKind, Strings};
+use vx_typed::Leaves;
 
 impl Column {
     /// The column of the cells: typed where each of them is a value of the type or null, and the type has typed values;

@@ -1,18 +1,20 @@
 //! A column of any type.
 
-ghost use Rattle.std.specs.Prelude.{◌≡◌, ◌≤◌, ◌<◌, length, slice_index_or, IsTrue, IfOk};
+ghost use Rattle.std.specs.Prelude.{◌≡◌, ◌≤◌, ◌<◌, length, map, slice_index_or, IsTrue, IfOk};
 ghost use Rattle.vx_model.specs.Words.{all_by};
 ghost use Rattle.vx_model.specs.CellData.{null_cell};
 ghost use Rattle.vx_model.specs.TreeView.{tree};
 ghost use Rattle.vx_layout_spec.specs.Real.{is_real_cell};
 ghost use Rattle.vx_chunk_cells.specs.Window.{window};
+ghost use Rattle.vx_typed.specs.Lent.{lent_cell};
 ghost use Rattle.vx_column.specs.ColumnView.{column_cells, column_form};
 
 use crate::leaves::AnyLeaves;
 use std::alloc::{AllocError, Global};
 use vx_chunk_cells::{copy_cells, real_cells};
 use vx_model::Cell;
-use vx_typed::Strings;
+use vx_strings::Strings;
+use vx_typed::{Lent, lend_cell};
 
 /// Rows of one type: typed values, or cells of any type.
 #[derive(Drop)]
@@ -46,6 +48,31 @@ impl Column {
             Column::Strings(strings) => strings.get(alloc, row),
             Column::Cells(cells) => cells[row].clone(),
         }
+    }
+
+    /// The cell of a row, lent. It takes no memory.
+    #[tactic(auto, using(crate::proofs::Steps::column_rules))]
+    pub fn row(&self, row: usize) -> Lent<'_>
+        requires { row < length (column_cells self.now) }
+        ensures { lent_cell result ≡ slice_index_or (column_cells self.now) row null_cell }
+    {
+        match self {
+            Column::Leaves(leaves) => leaves.row(row),
+            Column::Strings(strings) => strings.row(row),
+            Column::Cells(cells) => lend_cell(&cells[row]),
+        }
+    }
+
+    /// All rows, lent.
+    #[tactic(auto, using(crate::proofs::Lents::row_rules))]
+    pub fn rows(&self, alloc: Global) -> Result<Vec<Lent<'_>>, AllocError>
+        ensures { IfOk result (λ v. map lent_cell v.items ≡ column_cells self.now) }
+    {
+        let mut rows = Vec::with_capacity(alloc, self.len())?;
+        for row in 0..self.len() {
+            rows.push(self.row(row))?;
+        }
+        Ok(rows)
     }
 
     /// Rows `from` to `to`, the last not included: typed values in the same memory, cells as copies.

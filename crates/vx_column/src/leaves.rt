@@ -6,11 +6,12 @@ ghost use Rattle.vx_model.specs.CellData.{null_cell, spelling};
 ghost use Rattle.vx_model.specs.TreeView.{tree};
 ghost use Rattle.vx_chunk_cells.specs.Window.{window};
 ghost use Rattle.vx_typed.specs.Typed.{is_leaf};
+ghost use Rattle.vx_typed.specs.Lent.{lent_cell};
 ghost use Rattle.vx_column.specs.ColumnView.{leaf_cells, leaf_ptype, leaf_type, leaf_width};
 
 use std::alloc::AllocError;
 use vx_model::{Cell, PType};
-use vx_typed::Leaves;
+use vx_typed::{Leaves, Lent};
 
 /// Numbers of one of the integer types, or Bools.
 #[derive(Drop)]
@@ -98,6 +99,14 @@ impl AnyLeaves {
         ensures { tree result ≡ slice_index_or (leaf_cells self.now) row null_cell }
     {
         of_each!(self, leaves => leaves.get(row))
+    }
+
+    /// The cell of a row, lent.
+    pub fn row(&self, row: usize) -> Lent<'_>
+        requires { row < length (leaf_cells self.now) }
+        ensures { lent_cell result ≡ slice_index_or (leaf_cells self.now) row null_cell }
+    {
+        of_each!(self, leaves => leaves.row(row))
     }
 
     /// Rows `from` to `to`, the last not included, in the same memory.

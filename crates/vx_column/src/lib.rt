@@ -4,10 +4,13 @@
 mod cells;
 mod codes;
 mod column;
+mod joined;
+mod leaf_joins;
 mod leaves;
 mod parts;
 mod sizes;
 
 pub use codes::place_of;
 pub use column::Column;
+pub use joined::no_rows;
 pub use leaves::AnyLeaves;

@@ -11,7 +11,7 @@ use crate::column::Column;
 use crate::leaves::AnyLeaves;
 use vx_chunk_cells::{cell_size, cells_size, times};
 use vx_model::{Cell, DType};
-use vx_typed::Strings;
+use vx_strings::Strings;
 
 impl Column {
     /// Bytes that rows `from` to `to` count for in the type, at most the greatest u128.

@@ -10,7 +10,7 @@ use std::alloc::AllocError;
 use vx_cell_codec::push_cells;
 use vx_column::{AnyLeaves, Column};
 use vx_model::{DType, PType};
-use vx_typed::Strings;
+use vx_strings::Strings;
 
 /// Appends the bytes of the column's cells in the type, one after the other: in one pass over typed values where the
 /// type is theirs, else over cells.

@@ -55,11 +55,12 @@ pub(crate) fn steps<
     ensures kind { D.kind compressor.new ≡ D.kind compressor.old }
     ensures pressed { PressedOnly (D.faults compressor.old) (D.faults compressor.new) (D.may_fail compressor.old) result }
 {
+    let mut raised: Option<Path> = None;
     'steps: for _ in rt.forever() {
         if machine.finished() {
             return Ok(machine.finish());
         }
-        match turn(rt, sink, seat, &mut machine, compressor) {
+        match turn(rt, sink, seat, &mut machine, &mut raised, compressor) {
             Ok(()) => book(rt, tracker, bytes, machine.held()),
             Err(error) => {
                 machine.refuse();
@@ -88,6 +89,7 @@ fn turn<
     sink: &OrderedSink<S, W, F, M, N, P>,
     seat: &mut Seat<W, F, M, N, P>,
     machine: &mut ColumnMachine<B>,
+    raised: &mut Option<Path>,
     compressor: &mut D,
 ) -> Result<(), WriteError>
     requires balance { InBalance B.may_fail machine.old }
@@ -104,7 +106,7 @@ fn turn<
     ensures kind { D.kind compressor.new ≡ D.kind compressor.old }
     ensures pressed { StepPressed (D.faults compressor.old) (D.faults compressor.new) (D.may_fail compressor.old) (D.may_fail compressor.new) result }
 {
-    raise(rt, sink, seat, machine)?;
+    raise(rt, sink, seat, machine, raised)?;
     let written = machine.step(compressor)?;
     match written {
         Some(segment) => hand_on(rt, sink, seat, machine.paths(), segment.as_slice()),
@@ -112,7 +114,7 @@ fn turn<
     }
 }
 
-/// Raises the column's front to where the struct's node would write next.
+/// Raises the column's front to where the struct's node would write next, unless it was raised there last.
 fn raise<
     B: BatchSource + Drop,
     S: SegmentSink,
@@ -127,11 +129,24 @@ fn raise<
     sink: &OrderedSink<S, W, F, M, N, P>,
     seat: &Seat<W, F, M, N, P>,
     machine: &ColumnMachine<B>,
+    raised: &mut Option<Path>,
 ) -> Result<(), AllocError> {
-    if let Some(front) = machine.front()? {
+    let Some(front) = machine.front()? else {
+        return Ok(());
+    };
+    if !stands_at(raised, &front) {
+        *raised = Some(front.clone()?);
         sink.raise(rt, seat, Some(front));
     }
     Ok(())
+}
+
+/// Whether it was raised there last.
+fn stands_at(raised: &Option<Path>, front: &Path) -> bool {
+    match raised {
+        Some(path) => path == front,
+        None => false,
+    }
 }
 
 /// Hands a segment on to the shared sink, at the last of the paths.

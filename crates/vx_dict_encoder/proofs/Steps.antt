@@ -1,17 +1,15 @@
 -- Steps of the encoder, a row at a time.
-use Rattle.std.proofs.Common.{◌≡◌, ℕ, zero, suc, ◌+◌, ◌<◌, ◌≤◌, Bool, true, false, List, [], ◌∷◌, ◌++◌, map, length, drop, get_or, refl, sym, ap, ap₂, ◌∙◌, arith}
-use Rattle.std.proofs.lemmas.List.{drop_more, drop_all}
+use Rattle.std.proofs.Common.{◌≡◌, ℕ, zero, suc, ◌+◌, ◌<◌, ◌≤◌, Bool, true, false, List, [], ◌∷◌, ◌++◌, length, drop, get_or, refl, sym, ap, ap₂, ◌∙◌, arith}
+use Rattle.std.proofs.lemmas.List.{drop_all}
 use Rattle.std.proofs.lemmas.Bool.{and_parts}
 use Rattle.vx_model.specs.Words.{all_by}
 use Rattle.vx_model.specs.Ty.{Ty}
-use Rattle.vx_model.specs.CellData.{CellData, fits}
+use Rattle.vx_model.specs.CellData.{CellData, null_cell, fits}
 use Rattle.vx_model.specs.ChunkData.{is_dict_type}
-use Rattle.vx_model.specs.declared.cell.Cell.{Cell}
-use Rattle.vx_model.specs.TreeView.{tree}
 use Rattle.vx_rules.specs.Runs.{DictOptions, stretches, same_cell, has_cell, place_in, cells_fit}
 use Rattle.vx_runs.specs.Cutting.{is_code_of, ClosedFit, Running, Standing}
 use Rattle.vx_rules.proofs.RunLaws.{self_same}
-use Rattle.vx_runs.proofs.Steps.{row_known, row_new, row_ends}
+use Rattle.vx_runs.proofs.Steps.{row_known, row_new, row_ends, next_row}
 use Rattle.vx_runs.proofs.Fitting.{CutFits, stretches_fit}
 use Rattle.vx_dict_encoder.specs.Front.{first_of, first_run, front}
 use Rattle.vx_dict_encoder.specs.Coding.{GoesOn, Ends}
@@ -33,44 +31,41 @@ pub ruleset row_rules = (known_goes_on, new_goes_on, full_ends)
 
 -- ---- the cells from a place on
 
-all_at : (f : CellData → Bool) (cells : List Cell) (i : ℕ) (x : Cell) → i < length cells → x ≡ get_or cells i x → all_by f (map tree cells) ≡ true → f (tree x) ≡ true
-all_at f [] i x l e h = absurd (omega arith)
-all_at f (c ∷ cs) zero x l e h = ap (λ (z : Cell). f (tree z)) e ∙ (and_parts (f (tree c)) _ h).0
-all_at f (c ∷ cs) (suc i) x l e h = all_at f cs i x (omega arith) e (and_parts (f (tree c)) _ h).1
+all_at : (f : CellData → Bool) (cs : List CellData) (i : ℕ) (c : CellData) → i < length cs → c ≡ get_or cs i null_cell → all_by f cs ≡ true → f c ≡ true
+all_at f [] i c l e h = absurd (omega arith)
+all_at f (d ∷ cs) zero c l e h = ap f e ∙ (and_parts (f d) _ h).0
+all_at f (d ∷ cs) (suc i) c l e h = all_at f cs i c (omega arith) e (and_parts (f d) _ h).1
 
-pub plain_at : (t : Ty) (cells : List Cell) (i : ℕ) (x : Cell) → i < length cells → x ≡ get_or cells i x → is_dict_type t ≡ true → all_by (fits t) (map tree cells) ≡ true → same_cell (tree x) (tree x) ≡ true
-plain_at t cells i x l e d f = self_same t (tree x) d (all_at (fits t) cells i x l e f)
+pub plain_at : (t : Ty) (cs : List CellData) (i : ℕ) (c : CellData) → i < length cs → c ≡ get_or cs i null_cell → is_dict_type t ≡ true → all_by (fits t) cs ≡ true → same_cell c c ≡ true
+plain_at t cs i c l e d f = self_same t c d (all_at (fits t) cs i c l e f)
 
-next_row : (cells : List Cell) (i : ℕ) (x : Cell) → i < length cells → x ≡ get_or cells i x → map tree (drop i cells) ≡ tree x ∷ map tree (drop (i + 1) cells)
-next_row cells i x l e = rw (drop_more cells i x l, ← e) refl
+pub front_more : (o : DictOptions) (t : Ty) (cs : List CellData) (i : ℕ) (c : CellData) (ds es : List CellData) (codes : List ℕ) (k : ℕ) (target : List ℕ × List CellData) → i < length cs → c ≡ get_or cs i null_cell → GoesOn o t ds c es k
+    → first_run (stretches o t ds codes (drop i cs)) ≡ target → first_run (stretches o t es (codes ++ k ∷ []) (drop (i + 1) cs)) ≡ target
+front_more o t cs i c ds es codes k target l e g h =
+    ap first_run (g codes (drop (i + 1) cs) ∙ ap (stretches o t ds codes) (sym (next_row cs i c l e))) ∙ h
 
-pub front_more : (o : DictOptions) (t : Ty) (cells : List Cell) (i : ℕ) (x : Cell) (ds es : List CellData) (codes : List ℕ) (k : ℕ) (target : List ℕ × List CellData) → i < length cells → x ≡ get_or cells i x → GoesOn o t ds (tree x) es k
-    → first_run (stretches o t ds codes (map tree (drop i cells))) ≡ target → first_run (stretches o t es (codes ++ k ∷ []) (map tree (drop (i + 1) cells))) ≡ target
-front_more o t cells i x ds es codes k target l e g h =
-    ap first_run (g codes (map tree (drop (i + 1) cells)) ∙ ap (stretches o t ds codes) (sym (next_row cells i x l e))) ∙ h
+front_stops : (o : DictOptions) (t : Ty) (cs : List CellData) (i : ℕ) (c : CellData) (ds : List CellData) (codes : List ℕ) (target : List ℕ × List CellData) → i < length cs → c ≡ get_or cs i null_cell → Ends o t ds c
+    → first_run (stretches o t ds codes (drop i cs)) ≡ target → (codes, ds) ≡ target
+front_stops o t cs i c ds codes target l e g h = sym (g codes (drop (i + 1) cs)) ∙ ap (λ (z : List CellData). first_run (stretches o t ds codes z)) (sym (next_row cs i c l e)) ∙ h
 
-front_stops : (o : DictOptions) (t : Ty) (cells : List Cell) (i : ℕ) (x : Cell) (ds : List CellData) (codes : List ℕ) (target : List ℕ × List CellData) → i < length cells → x ≡ get_or cells i x → Ends o t ds (tree x)
-    → first_run (stretches o t ds codes (map tree (drop i cells))) ≡ target → (codes, ds) ≡ target
-front_stops o t cells i x ds codes target l e g h = sym (g codes (map tree (drop (i + 1) cells))) ∙ ap (λ (z : List CellData). first_run (stretches o t ds codes z)) (sym (next_row cells i x l e)) ∙ h
+pub stop_codes : (o : DictOptions) (t : Ty) (cs : List CellData) (i : ℕ) (c : CellData) (ds : List CellData) (codes : List ℕ) (target : List ℕ × List CellData) → i < length cs → c ≡ get_or cs i null_cell → Ends o t ds c
+    → first_run (stretches o t ds codes (drop i cs)) ≡ target → codes ≡ target.0
+stop_codes o t cs i c ds codes target l e g h = ap (λ (z : List ℕ × List CellData). z.0) (front_stops o t cs i c ds codes target l e g h)
 
-pub stop_codes : (o : DictOptions) (t : Ty) (cells : List Cell) (i : ℕ) (x : Cell) (ds : List CellData) (codes : List ℕ) (target : List ℕ × List CellData) → i < length cells → x ≡ get_or cells i x → Ends o t ds (tree x)
-    → first_run (stretches o t ds codes (map tree (drop i cells))) ≡ target → codes ≡ target.0
-stop_codes o t cells i x ds codes target l e g h = ap (λ (z : List ℕ × List CellData). z.0) (front_stops o t cells i x ds codes target l e g h)
-
-pub stop_distinct : (o : DictOptions) (t : Ty) (cells : List Cell) (i : ℕ) (x : Cell) (ds es : List CellData) (codes : List ℕ) (target : List ℕ × List CellData) → i < length cells → x ≡ get_or cells i x → Ends o t ds (tree x)
-    → es ≡ ds → first_run (stretches o t ds codes (map tree (drop i cells))) ≡ target → es ≡ target.1
-stop_distinct o t cells i x ds es codes target l e g w h = w ∙ ap (λ (z : List ℕ × List CellData). z.1) (front_stops o t cells i x ds codes target l e g h)
+pub stop_distinct : (o : DictOptions) (t : Ty) (cs : List CellData) (i : ℕ) (c : CellData) (ds es : List CellData) (codes : List ℕ) (target : List ℕ × List CellData) → i < length cs → c ≡ get_or cs i null_cell → Ends o t ds c
+    → es ≡ ds → first_run (stretches o t ds codes (drop i cs)) ≡ target → es ≡ target.1
+stop_distinct o t cs i c ds es codes target l e g w h = w ∙ ap (λ (z : List ℕ × List CellData). z.1) (front_stops o t cs i c ds codes target l e g h)
 
 -- no row is left
-pub end_codes : (o : DictOptions) (t : Ty) (cells : List Cell) (i : ℕ) (ds : List CellData) (codes : List ℕ) (target : List ℕ × List CellData) → length cells ≤ i
-    → first_run (stretches o t ds codes (map tree (drop i cells))) ≡ target → codes ≡ target.0
-end_codes o t cells i ds codes target l h =
-    ap (λ (z : List ℕ × List CellData). z.0) (ap (λ (z : List Cell). first_run (stretches o t ds codes (map tree z))) (sym (drop_all i cells l)) ∙ h)
+pub end_codes : (o : DictOptions) (t : Ty) (cs : List CellData) (i : ℕ) (ds : List CellData) (codes : List ℕ) (target : List ℕ × List CellData) → length cs ≤ i
+    → first_run (stretches o t ds codes (drop i cs)) ≡ target → codes ≡ target.0
+end_codes o t cs i ds codes target l h =
+    ap (λ (z : List ℕ × List CellData). z.0) (ap (λ (z : List CellData). first_run (stretches o t ds codes z)) (sym (drop_all i cs l)) ∙ h)
 
-pub end_distinct : (o : DictOptions) (t : Ty) (cells : List Cell) (i : ℕ) (ds : List CellData) (codes : List ℕ) (target : List ℕ × List CellData) → length cells ≤ i
-    → first_run (stretches o t ds codes (map tree (drop i cells))) ≡ target → ds ≡ target.1
-end_distinct o t cells i ds codes target l h =
-    ap (λ (z : List ℕ × List CellData). z.1) (ap (λ (z : List Cell). first_run (stretches o t ds codes (map tree z))) (sym (drop_all i cells l)) ∙ h)
+pub end_distinct : (o : DictOptions) (t : Ty) (cs : List CellData) (i : ℕ) (ds : List CellData) (codes : List ℕ) (target : List ℕ × List CellData) → length cs ≤ i
+    → first_run (stretches o t ds codes (drop i cs)) ≡ target → ds ≡ target.1
+end_distinct o t cs i ds codes target l h =
+    ap (λ (z : List ℕ × List CellData). z.1) (ap (λ (z : List CellData). first_run (stretches o t ds codes z)) (sym (drop_all i cs l)) ∙ h)
 
 pub ruleset front_rules = (plain_at, front_more, stop_codes, stop_distinct, end_codes, end_distinct)
 

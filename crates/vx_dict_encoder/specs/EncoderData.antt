@@ -10,7 +10,7 @@ use Rattle.vx_model.specs.ChunkData.{ChunkData, cells}
 use Rattle.vx_model.specs.Codes.{number_of, ty_code, ty_of, ty_back}
 use Rattle.vx_model.specs.declared.dtype.DType.{DType}
 use Rattle.vx_model.specs.TyView.{ty}
-use Rattle.vx_chunk.specs.ChunkCode.{cells_code, cells_of, cells_back}
+use Rattle.vx_typed.specs.CellCode.{cells_code, cells_of, cells_back}
 use Rattle.vx_rules.specs.Runs.{DictOptions}
 use Rattle.vx_strategy_options.specs.declared.options.DictLayoutConstraints.{DictLayoutConstraints}
 use Rattle.vx_runs.specs.Cutting.{limited}

@@ -60,9 +60,8 @@ impl DictEncoder {
     }
 
     /// The codes of the longest front of the rows with which the distinct cells fit, as a plain chunk, and how many rows
-    /// it has; its cells stand in the dictionary then. Takes time by the rows. Those that are held as cells are looked
-    /// at where they are; only what is new to the dictionary is copied. After an error the
-    /// dictionary has no cells.
+    /// it has; its cells stand in the dictionary then. Takes time by the rows. Those that are held as a column are looked
+    /// at where they are; only what is new to the dictionary is copied. After an error the dictionary has no cells.
     #[tactic(auto, using(crate::proofs::Encoders::encode_rules))]
     pub fn encode(&mut self, alloc: Global, rows: &Chunk) -> Result<(Chunk, u64), ChunkError>
         requires { piece_type rows.now ≡ self.old.typed }

@@ -1,11 +1,12 @@
 //! The front of rows that a dictionary takes.
 
-ghost use Rattle.std.specs.Prelude.{◌≡◌, [], map, IsTrue, OnOk, IfOk, IfErr, MatchOption};
+ghost use Rattle.std.specs.Prelude.{◌≡◌, [], IsTrue, OnOk, IfOk, IfErr, MatchOption};
 ghost use Rattle.vx_model.specs.Words.{all_by};
 ghost use Rattle.vx_model.specs.CellData.{fits};
 ghost use Rattle.vx_model.specs.ChunkData.{is_dict_type, cells as cells_in};
 ghost use Rattle.vx_model.specs.TyView.{ty};
-ghost use Rattle.vx_model.specs.TreeView.{tree};
+ghost use Rattle.vx_typed.specs.Lent.{lent_cell};
+ghost use Rattle.vx_column.specs.ColumnView.{column_cells};
 ghost use Rattle.vx_rules.specs.Runs.{same_cell};
 ghost use Rattle.vx_strategy_options.specs.OptionViews.{dict_options};
 ghost use Rattle.vx_runs.specs.Cutting.{Running, Standing, is_code_of};
@@ -14,10 +15,12 @@ ghost use Rattle.vx_dict_encoder.specs.Coding.{GoesOn, Ends};
 
 use std::alloc::{AllocError, Global};
 use vx_chunk::{Chunk, ChunkError};
-use vx_model::{Cell, DType};
+use vx_column::Column;
+use vx_model::DType;
 use vx_runs::cost_with;
 use vx_slots::CellTable;
 use vx_strategy_options::DictLayoutConstraints;
+use vx_typed::{Lent, own_cell};
 
 /// What a dictionary holds.
 #[derive(Drop)]
@@ -40,7 +43,7 @@ impl Values {
     }
 }
 
-/// The codes of a chunk's front. Rows that are held as cells are looked at where they are, others are copied first.
+/// The codes of a chunk's front. Rows that are held as a column are looked at where they are, others are copied first.
 #[tactic(auto, using(crate::proofs::Steps::chunk_rules))]
 pub(crate) fn chunk_front(
     values: &mut Values,
@@ -57,32 +60,33 @@ pub(crate) fn chunk_front(
     ensures coded { IfOk result (λ v. IsTrue (all_by (is_code_of (dict_options limits 0)) v.items)) }
     ensures memory { IfErr result (λ e. e ≡ ChunkError.OutOfMemory) }
 {
-    if let Some(cells) = rows.as_cells() {
-        return Ok(front(values, alloc, dtype, limits, cells)?);
+    if let Some(column) = rows.as_column() {
+        return Ok(front(values, alloc, dtype, limits, column)?);
     }
     let cells = rows.cells(alloc)?;
-    Ok(front(values, alloc, dtype, limits, &cells)?)
+    let column = Column::Cells(cells);
+    Ok(front(values, alloc, dtype, limits, &column)?)
 }
 
-/// The codes of the longest front of the cells. Only those that are new are copied.
+/// The codes of the longest front of the rows. Only those that are new are copied.
 #[tactic(auto, using(crate::proofs::Steps::front_rules))]
 fn front(
     values: &mut Values,
     alloc: Global,
     dtype: &DType,
     limits: DictLayoutConstraints,
-    cells: &[Cell],
+    column: &Column,
 ) -> Result<Vec<u64>, AllocError>
     requires dict { IsTrue (is_dict_type (ty dtype.now)) }
-    requires fit { IsTrue (all_by (fits (ty dtype.now)) (map tree cells.now)) }
+    requires fit { IsTrue (all_by (fits (ty dtype.now)) (column_cells column.now)) }
     requires running { Running (dict_options limits 0) (ty dtype.now) values.old.distinct values.old.cost }
     ensures running { OnOk result (Running (dict_options limits 0) (ty dtype.now) values.new.distinct values.new.cost) }
-    ensures codes { IfOk result (λ v. v.items ≡ (front_of (dict_options limits 0) (ty dtype.now) values.old.distinct (map tree cells.now)).0) }
-    ensures distinct { OnOk result (values.new.distinct ≡ (front_of (dict_options limits 0) (ty dtype.now) values.old.distinct (map tree cells.now)).1) }
+    ensures codes { IfOk result (λ v. v.items ≡ (front_of (dict_options limits 0) (ty dtype.now) values.old.distinct (column_cells column.now)).0) }
+    ensures distinct { OnOk result (values.new.distinct ≡ (front_of (dict_options limits 0) (ty dtype.now) values.old.distinct (column_cells column.now)).1) }
 {
-    let mut codes = Vec::with_capacity(alloc, cells.len())?;
-    for cell in cells {
-        let Some(code) = code_of(values, dtype, limits, cell)? else {
+    let mut codes = Vec::with_capacity(alloc, column.len())?;
+    for row in 0..column.len() {
+        let Some(code) = code_of(values, alloc, dtype, limits, column.row(row))? else {
             return Ok(codes);
         };
         codes.push(code)?;
@@ -94,25 +98,27 @@ fn front(
 #[tactic(auto, using(crate::proofs::Steps::row_rules))]
 fn code_of(
     values: &mut Values,
+    alloc: Global,
     dtype: &DType,
     limits: DictLayoutConstraints,
-    cell: &Cell,
+    cell: Lent<'_>,
 ) -> Result<Option<u64>, AllocError>
-    requires plain { IsTrue (same_cell (tree cell.now) (tree cell.now)) }
+    requires plain { IsTrue (same_cell (lent_cell cell) (lent_cell cell)) }
     requires running { Running (dict_options limits 0) (ty dtype.now) values.old.distinct values.old.cost }
     ensures running { OnOk result (Running (dict_options limits 0) (ty dtype.now) values.new.distinct values.new.cost) }
     ensures code { IfOk result (λ r. MatchOption r
-        ((values.new.distinct ≡ values.old.distinct) × Ends (dict_options limits 0) (ty dtype.now) values.old.distinct (tree cell.now))
-        (λ k. GoesOn (dict_options limits 0) (ty dtype.now) values.old.distinct (tree cell.now) values.new.distinct k)) }
+        ((values.new.distinct ≡ values.old.distinct) × Ends (dict_options limits 0) (ty dtype.now) values.old.distinct (lent_cell cell.entry))
+        (λ k. GoesOn (dict_options limits 0) (ty dtype.now) values.old.distinct (lent_cell cell.entry) values.new.distinct k)) }
 {
-    if let Some(place) = values.distinct.find(cell) {
+    if let Some(place) = values.distinct.find_lent(cell) {
         return Ok(Some(place));
     }
-    let Some(cost) = cost_with(&values.distinct, values.cost, dtype, limits, cell) else {
+    let own = own_cell(alloc, cell)?;
+    let Some(cost) = cost_with(&values.distinct, values.cost, dtype, limits, &own) else {
         return Ok(None);
     };
     let place = values.distinct.len();
-    values.distinct.push(cell.clone()?)?;
+    values.distinct.push(own)?;
     values.cost = cost;
     Ok(Some(place))
 }

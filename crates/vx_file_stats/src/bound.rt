@@ -3,7 +3,8 @@
 ghost use Rattle.std.specs.Prelude.{◌≡◌, map, IsTrue, IfOk};
 ghost use Rattle.vx_model.specs.Words.{all_by};
 ghost use Rattle.vx_model.specs.TyView.{ty};
-ghost use Rattle.vx_model.specs.TreeView.{tree, val};
+ghost use Rattle.vx_model.specs.TreeView.{val};
+ghost use Rattle.vx_typed.specs.Lent.{lent_cell};
 ghost use Rattle.vx_model.specs.CellData.{fits};
 ghost use Rattle.vx_model.specs.ValueData.{value};
 ghost use Rattle.vx_zone_spec.specs.ValueOrder.{greatest, least};
@@ -14,8 +15,9 @@ ghost use Rattle.vx_file_stats.specs.Gathering.{bound_data, no_bound, max_with, 
 
 use std::alloc::{AllocError, Global};
 use vx_aggregate::AggregateFn;
-use vx_model::{Cell, DType, Value};
-use vx_zone_record::{cells_value, greater, lesser, lower_bound, upper_bound};
+use vx_model::{DType, Value};
+use vx_typed::Lent;
+use vx_zone_record::{greater, lesser, lower_bound, rows_value, upper_bound};
 
 /// A bound of the batches so far.
 #[derive(Drop)]
@@ -44,14 +46,14 @@ pub(crate) fn max_with(
     alloc: Global,
     limit: u64,
     column: &DType,
-    cells: &[Cell],
+    rows: &[Lent<'_>],
     before: BoundSoFar,
 ) -> Result<BoundSoFar, AllocError>
     requires held { IsTrue (has_state (ty column.now) maximum) }
-    requires fit { IsTrue (all_by (fits (ty column.now)) (map tree cells.now)) }
-    ensures { IfOk result (λ b. bound_data b ≡ max_with limit (greatest (map value (map tree cells.now))) (bound_data before)) }
+    requires fit { IsTrue (all_by (fits (ty column.now)) (map lent_cell rows.now)) }
+    ensures { IfOk result (λ b. bound_data b ≡ max_with limit (greatest (map value (map lent_cell rows.now))) (bound_data before)) }
 {
-    let Ok(found) = cells_value(alloc, AggregateFn::Max, column, cells) else {
+    let Ok(found) = rows_value(alloc, AggregateFn::Max, column, rows) else {
         drop(before);
         return Err(AllocError);
     };
@@ -74,14 +76,14 @@ pub(crate) fn min_with(
     alloc: Global,
     limit: u64,
     column: &DType,
-    cells: &[Cell],
+    rows: &[Lent<'_>],
     before: BoundSoFar,
 ) -> Result<BoundSoFar, AllocError>
     requires held { IsTrue (has_state (ty column.now) minimum) }
-    requires fit { IsTrue (all_by (fits (ty column.now)) (map tree cells.now)) }
-    ensures { IfOk result (λ b. bound_data b ≡ min_with limit (least (map value (map tree cells.now))) (bound_data before)) }
+    requires fit { IsTrue (all_by (fits (ty column.now)) (map lent_cell rows.now)) }
+    ensures { IfOk result (λ b. bound_data b ≡ min_with limit (least (map value (map lent_cell rows.now))) (bound_data before)) }
 {
-    let Ok(found) = cells_value(alloc, AggregateFn::Min, column, cells) else {
+    let Ok(found) = rows_value(alloc, AggregateFn::Min, column, rows) else {
         drop(before);
         return Err(AllocError);
     };

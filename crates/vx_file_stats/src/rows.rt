@@ -3,7 +3,9 @@
 ghost use Rattle.std.specs.Prelude.{◌≡◌, ◌||◌, map, IsTrue, IfOk, if◌then◌else◌};
 ghost use Rattle.vx_model.specs.Words.{all_by};
 ghost use Rattle.vx_model.specs.TyView.{ty};
-ghost use Rattle.vx_model.specs.TreeView.{tree, val};
+ghost use Rattle.vx_model.specs.TreeView.{val};
+ghost use Rattle.vx_typed.specs.Lent.{lent_cell};
+ghost use Rattle.vx_column.specs.ColumnView.{column_cells};
 ghost use Rattle.vx_model.specs.CellData.{fits};
 ghost use Rattle.vx_model.specs.ValueData.{value};
 ghost use Rattle.vx_model.specs.ChunkData.{piece_type, row_values};
@@ -19,8 +21,10 @@ use crate::keeps::keeps;
 use std::alloc::{AllocError, Global};
 use vx_aggregate::{AggregateFn, Stat};
 use vx_chunk::Chunk;
-use vx_model::{Cell, DType, Value};
-use vx_zone_record::{cells_value, null_count};
+use vx_column::Column;
+use vx_model::{DType, Value};
+use vx_typed::Lent;
+use vx_zone_record::{null_rows, rows_value};
 
 /// What is gathered of a column's rows. What isn't asked for stays as it began.
 #[derive(Drop)]
@@ -45,8 +49,8 @@ pub(crate) fn no_rows() -> RowStats
     }
 }
 
-/// Those with one batch more. Rows that the chunk holds as cells aren't copied, and rows that no statistic reads aren't
-/// made.
+/// Those with one batch more. Rows that the chunk holds as a column aren't copied, and rows that no statistic reads
+/// aren't made.
 pub(crate) fn with_chunk(
     alloc: Global,
     asked: &[Stat],
@@ -60,14 +64,36 @@ pub(crate) fn with_chunk(
         return Ok(before);
     }
     chunk.sound();
-    if let Some(cells) = chunk.as_cells() {
-        return with_cells(alloc, asked, limit, chunk.dtype(), cells, before);
+    if let Some(column) = chunk.as_column() {
+        return with_column(alloc, asked, limit, chunk.dtype(), column, before);
     }
     let Ok(cells) = chunk.cells(alloc) else {
         drop(before);
         return Err(AllocError);
     };
-    with_cells(alloc, asked, limit, chunk.dtype(), &cells, before)
+    let column = Column::Cells(cells);
+    with_column(alloc, asked, limit, chunk.dtype(), &column, before)
+}
+
+/// Those with the rows that a reader sees of this column.
+fn with_column(
+    alloc: Global,
+    asked: &[Stat],
+    limit: u64,
+    dtype: &DType,
+    column: &Column,
+    before: RowStats,
+) -> Result<RowStats, AllocError>
+    requires { IsTrue (all_by (fits (ty dtype.now)) (column_cells column.now)) }
+    ensures { IfOk result (λ r. row_data r ≡ with_rows asked.now limit (ty dtype.now) (map value (column_cells column.now)) (row_data before)) }
+{
+    match column.rows(alloc) {
+        Ok(rows) => with_lent(alloc, asked, limit, dtype, &rows, before),
+        Err(error) => {
+            drop(before);
+            Err(error)
+        }
+    }
 }
 
 /// Whether some statistic that is kept is one of the rows.
@@ -79,16 +105,16 @@ fn reads_rows(asked: &[Stat], column: &DType) -> bool
 }
 
 /// Those with the rows that a reader sees of these cells.
-fn with_cells(
+fn with_lent(
     alloc: Global,
     asked: &[Stat],
     limit: u64,
     column: &DType,
-    cells: &[Cell],
+    rows: &[Lent<'_>],
     before: RowStats,
 ) -> Result<RowStats, AllocError>
-    requires { IsTrue (all_by (fits (ty column.now)) (map tree cells.now)) }
-    ensures { IfOk result (λ r. row_data r ≡ with_rows asked.now limit (ty column.now) (map value (map tree cells.now)) (row_data before)) }
+    requires { IsTrue (all_by (fits (ty column.now)) (map lent_cell rows.now)) }
+    ensures { IfOk result (λ r. row_data r ≡ with_rows asked.now limit (ty column.now) (map value (map lent_cell rows.now)) (row_data before)) }
 {
     let RowStats {
         upper,
@@ -96,15 +122,15 @@ fn with_cells(
         total,
         null_rows,
     } = before;
-    let Ok(upper) = next_upper(alloc, asked, limit, column, cells, upper) else {
+    let Ok(upper) = next_upper(alloc, asked, limit, column, rows, upper) else {
         drop(lower);
         return Err(AllocError);
     };
-    let Ok(lower) = next_lower(alloc, asked, limit, column, cells, lower) else {
+    let Ok(lower) = next_lower(alloc, asked, limit, column, rows, lower) else {
         drop(upper);
         return Err(AllocError);
     };
-    let Ok(total) = next_total(alloc, asked, column, cells, total) else {
+    let Ok(total) = next_total(alloc, asked, column, rows, total) else {
         drop((upper, lower));
         return Err(AllocError);
     };
@@ -112,7 +138,7 @@ fn with_cells(
         upper,
         lower,
         total,
-        null_rows: next_null_rows(asked, column, cells, null_rows),
+        null_rows: next_null_rows(asked, column, rows, null_rows),
     })
 }
 
@@ -122,16 +148,16 @@ fn next_upper(
     asked: &[Stat],
     limit: u64,
     column: &DType,
-    cells: &[Cell],
+    rows: &[Lent<'_>],
     before: BoundSoFar,
 ) -> Result<BoundSoFar, AllocError>
-    requires { IsTrue (all_by (fits (ty column.now)) (map tree cells.now)) }
-    ensures { IfOk result (λ b. bound_data b ≡ next_upper asked.now limit (ty column.now) (map value (map tree cells.now)) (bound_data before)) }
+    requires { IsTrue (all_by (fits (ty column.now)) (map lent_cell rows.now)) }
+    ensures { IfOk result (λ b. bound_data b ≡ next_upper asked.now limit (ty column.now) (map value (map lent_cell rows.now)) (bound_data before)) }
 {
     if !keeps(asked, Stat::Max, column) {
         return Ok(before);
     }
-    max_with(alloc, limit, column, cells, before)
+    max_with(alloc, limit, column, rows, before)
 }
 
 #[tactic(auto, using(crate::proofs::KeepSteps::kept_rules))]
@@ -140,16 +166,16 @@ fn next_lower(
     asked: &[Stat],
     limit: u64,
     column: &DType,
-    cells: &[Cell],
+    rows: &[Lent<'_>],
     before: BoundSoFar,
 ) -> Result<BoundSoFar, AllocError>
-    requires { IsTrue (all_by (fits (ty column.now)) (map tree cells.now)) }
-    ensures { IfOk result (λ b. bound_data b ≡ next_lower asked.now limit (ty column.now) (map value (map tree cells.now)) (bound_data before)) }
+    requires { IsTrue (all_by (fits (ty column.now)) (map lent_cell rows.now)) }
+    ensures { IfOk result (λ b. bound_data b ≡ next_lower asked.now limit (ty column.now) (map value (map lent_cell rows.now)) (bound_data before)) }
 {
     if !keeps(asked, Stat::Min, column) {
         return Ok(before);
     }
-    min_with(alloc, limit, column, cells, before)
+    min_with(alloc, limit, column, rows, before)
 }
 
 #[tactic(auto, using(crate::proofs::KeepSteps::kept_rules))]
@@ -157,26 +183,26 @@ fn next_total(
     alloc: Global,
     asked: &[Stat],
     column: &DType,
-    cells: &[Cell],
+    rows: &[Lent<'_>],
     before: Option<i128>,
 ) -> Result<Option<i128>, AllocError>
-    requires { IsTrue (all_by (fits (ty column.now)) (map tree cells.now)) }
-    ensures { IfOk result (λ s. s ≡ next_total asked.now (ty column.now) (map value (map tree cells.now)) before) }
+    requires { IsTrue (all_by (fits (ty column.now)) (map lent_cell rows.now)) }
+    ensures { IfOk result (λ s. s ≡ next_total asked.now (ty column.now) (map value (map lent_cell rows.now)) before) }
 {
     if !keeps(asked, Stat::Sum, column) {
         return Ok(before);
     }
-    let sum = batch_sum(alloc, column, cells)?;
+    let sum = batch_sum(alloc, column, rows)?;
     both(sum, before)
 }
 
 /// The sum of the rows; nothing where it doesn't fit its type.
-fn batch_sum(alloc: Global, column: &DType, cells: &[Cell]) -> Result<Option<i128>, AllocError>
+fn batch_sum(alloc: Global, column: &DType, rows: &[Lent<'_>]) -> Result<Option<i128>, AllocError>
     requires held { IsTrue (has_state (ty column.now) sum) }
-    requires fit { IsTrue (all_by (fits (ty column.now)) (map tree cells.now)) }
-    ensures { IfOk result (λ s. s ≡ number_in (sum_value (sum_of_type (ty column.now)) (exact_sum (map value (map tree cells.now))))) }
+    requires fit { IsTrue (all_by (fits (ty column.now)) (map lent_cell rows.now)) }
+    ensures { IfOk result (λ s. s ≡ number_in (sum_value (sum_of_type (ty column.now)) (exact_sum (map value (map lent_cell rows.now))))) }
 {
-    let sum = cells_value(alloc, AggregateFn::Sum, column, cells)?;
+    let sum = rows_value(alloc, AggregateFn::Sum, column, rows)?;
     let number = number_in(&sum);
     drop(sum);
     Ok(number)
@@ -209,11 +235,11 @@ fn both(sum: Option<i128>, total: Option<i128>) -> Result<Option<i128>, AllocErr
     }
 }
 
-fn next_null_rows(asked: &[Stat], column: &DType, cells: &[Cell], before: u128) -> u128
-    ensures { result ≡ next_null_rows asked.now (ty column.now) (map value (map tree cells.now)) before }
+fn next_null_rows(asked: &[Stat], column: &DType, rows: &[Lent<'_>], before: u128) -> u128
+    ensures { result ≡ next_null_rows asked.now (ty column.now) (map value (map lent_cell rows.now)) before }
 {
     if !keeps(asked, Stat::NullCount, column) {
         return before;
     }
-    before.saturating_add(u128::from(null_count(cells)))
+    before.saturating_add(u128::from(null_rows(rows)))
 }

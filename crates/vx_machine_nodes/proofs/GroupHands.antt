@@ -1,5 +1,5 @@
 -- Chunks that are to be handed on, from the last one on.
-use Rattle.std.proofs.Common.{◌≡◌, ℕ, suc, ◌+◌, List, [], ◌∷◌, ◌++◌, length, Option, Some, None, option_to_list, vec_len, Vec, Global, sym, ap, ◌∙◌, arith, append-nil}
+use Rattle.std.proofs.Common.{◌≡◌, ℕ, suc, ◌+◌, List, [], ◌∷◌, ◌++◌, length, Option, Some, None, option_to_list, vec_len, Vec, Global, refl, sym, ap, ◌∙◌, arith, append-nil}
 use Rattle.vx_path.specs.Path.{under}
 use Rattle.vx_model.specs.ChunkData.{ChunkData}
 use Rattle.vx_rules.specs.Regroup.{ranked}
@@ -48,6 +48,12 @@ pub last_reserved : (old new rest : List ℕ) (r : Option ℕ) (n x : ℕ) → r
 last_reserved old new rest r n x s a b =
     let q = same_last new rest x n (sym (a ∙ ap (λ z. new ++ option_to_list z) s) ∙ b) in
     (q.0, ap some_bytes s ∙ q.1)
+
+-- where nothing is reserved
+pub none_reserved : (old new : List ℕ) (r : Option ℕ) → old ≡ new ++ option_to_list r → old ≡ [] → (new ≡ []) × (some_bytes r ≡ 0)
+none_reserved old [] None a b = (refl, refl)
+none_reserved old [] (Some n) a b = absurd (cc (a, b))
+none_reserved old (x ∷ new) r a b = absurd (cc (a, b))
 
 pub hand_last : (p : List ℕ) (ids rest : Vec (List ℕ) Global) (id : List ℕ) (xs ys : List Due) (x : ChunkData) (r : Option ℕ) (n : ℕ) → ids.items ≡ rest.items ++ (id ∷ []) → vec_len rest + 1 ≡ vec_len ids
     → ids.items ≡ children p (vec_len ids) → ys ≡ HandOn (record { id = id; chunk = x }) r ∷ xs → some_bytes r ≡ n → todo_of ys ≡ hand_on n (under p (vec_len rest), x) ∷ todo_of xs

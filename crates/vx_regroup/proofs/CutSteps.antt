@@ -1,21 +1,18 @@
--- Cutting blocks off from the back, and cells behind others.
-use Rattle.std.proofs.Common.{◌≡◌, ℕ, ◌+◌, ◌-◌, ◌<◌, ◌≤◌, Bool, true, List, [], ◌∷◌, ◌++◌, map, length, take, drop, sum, get_or, refl, sym, ap, ap₂, ◌∙◌, arith, length-append}
-use Rattle.std.proofs.lemmas.List.{length-map, map-append, take-map, drop-map, drop_more, drop-take, take_at, length-take-le}
+-- Cutting blocks off from the back, and rows behind others.
+use Rattle.std.proofs.Common.{◌≡◌, ℕ, ◌+◌, ◌-◌, ◌<◌, ◌≤◌, Bool, true, List, [], ◌∷◌, ◌++◌, length, take, drop, sum, get_or, refl, sym, ap, ap₂, ◌∙◌, arith, length-append}
+use Rattle.std.proofs.lemmas.List.{append-nil, drop_more, take-take, drop-take, take_at, length-take-le}
 use Rattle.std.proofs.lemmas.List.Sums.{sum_by_more, sum_by-take-le, sum_by-cons}
 use Rattle.vx_model.specs.Words.{all_by}
 use Rattle.vx_model.specs.Ty.{Ty}
 use Rattle.vx_model.specs.CellData.{CellData}
 use Rattle.vx_model.specs.ChunkData.{ChunkData, plain_piece}
-use Rattle.vx_model.specs.declared.cell.Cell.{Cell}
-use Rattle.vx_model.specs.TreeView.{tree}
-use Rattle.vx_layout_spec.proofs.CellsFit.{all_take, all_drop, all_append}
-use Rattle.vx_rules.specs.Blocks.{block_sizes, tested_sizes, check_points, sizes_at, cut_off, left_over}
+use Rattle.vx_layout_spec.proofs.CellsFit.{all_drop, all_append}
+use Rattle.vx_rules.specs.Blocks.{block_sizes, tested_sizes, check_points, sizes_at, cut_off, left_over, last_block}
 use Rattle.vx_plan.specs.GroupNode.{tested_at as tested_by}
 use Rattle.vx_regroup.specs.Rules.{exactly}
-use Rattle.vx_regroup.proofs.WalkSteps.{walk_rules}
 use Rattle.vx_regroup.proofs.Lists.{drop_both, take_both}
 
-module _ (orig : List Cell) (sizes : List ℕ) (k : ℕ) (less : k < length sizes) (within : sum sizes ≤ length orig) where
+module _ (orig : List CellData) (sizes : List ℕ) (k : ℕ) (less : k < length sizes) (whole : sum sizes ≡ length orig) where
   -- the place of the block that is cut off, the rows before it, and its own
   abbrev pub place : ℕ
   place = length sizes - (k + 1)
@@ -36,7 +33,7 @@ module _ (orig : List Cell) (sizes : List ℕ) (k : ℕ) (less : k < length size
   pub is_within : before + size ≤ length orig
   is_within = let a : sum (take (length sizes - k) sizes) ≤ sum sizes = sum_by-take-le (λ x. x) sizes (length sizes - k) in let e : sum (take (length sizes - k) sizes) ≡ before + size = ends_at in omega arith
 
-  module _ (cells : List Cell) (front : cells ≡ take (sum (take (length sizes - k) sizes)) orig) where
+  module _ (cells : List CellData) (front : cells ≡ take (sum (take (length sizes - k) sizes)) orig) where
     front_is : cells ≡ take (before + size) orig
     front_is = front ∙ ap (λ n. take n orig) ends_at
 
@@ -45,30 +42,46 @@ module _ (orig : List Cell) (sizes : List ℕ) (k : ℕ) (less : k < length size
         let l : length cells ≡ length (take (before + size) orig) = ap length front_is in
         let m : length (take (before + size) orig) ≡ before + size = length-take-le (before + size) orig is_within in omega arith
 
+    pub size_fits : size ≤ length cells
+    size_fits =
+        let l : length cells ≡ length (take (before + size) orig) = ap length front_is in
+        let m : length (take (before + size) orig) ≡ before + size = length-take-le (before + size) orig is_within in omega arith
+
     pub left_is : take (length cells - size) cells ≡ take before orig
     left_is = ap₂ take start_is front_is ∙ ap (take before) (take_both before size orig) ∙ take_at (take before orig) (take size (drop before orig)) before (length-take-le before orig (let h : before + size ≤ length orig = is_within in omega arith))
 
-    pub taken_is : map tree (drop (length cells - size) cells) ≡ take size (drop before (map tree orig))
-    taken_is = ap (map tree) (ap₂ drop start_is front_is ∙ drop-take before size orig) ∙ sym (take-map tree size (drop before orig)) ∙ ap (take size) (sym (drop-map tree before orig))
+    pub taken_is : drop (length cells - size) cells ≡ take size (drop before orig)
+    taken_is = ap₂ drop start_is front_is ∙ drop-take before size orig
 
-  pub blocks_is : (t : Ty) (done : List ChunkData) → done ≡ cut_off t (drop (sum (take (length sizes - k) sizes)) (map tree orig)) (drop (length sizes - k) sizes)
-      → plain_piece t (take size (drop before (map tree orig))) ∷ done ≡ cut_off t (drop before (map tree orig)) (drop place sizes)
+  pub blocks_is : (t : Ty) (done : List ChunkData) → done ≡ cut_off t (drop (sum (take (length sizes - k) sizes)) orig) (drop (length sizes - k) sizes)
+      → plain_piece t (take size (drop before orig)) ∷ done ≡ cut_off t (drop before orig) (drop place sizes)
   blocks_is t done e =
       let n : length sizes - k ≡ place + 1 = omega arith in
-      ap (λ (z : List ChunkData). plain_piece t (take size (drop before (map tree orig))) ∷ z)
-      (e ∙ ap₂ (cut_off t) (ap (λ m. drop m (map tree orig)) ends_at ∙ drop_both before size (map tree orig)) (ap (λ m. drop m sizes) n))
-      ∙ ap (λ m. plain_piece t (take m (drop before (map tree orig))) ∷ cut_off t (drop m (drop before (map tree orig))) (drop (place + 1) sizes)) size_is
-      ∙ ap (cut_off t (drop before (map tree orig))) (sym (drop_more sizes place 0 (omega arith)))
+      ap (λ (z : List ChunkData). plain_piece t (take size (drop before orig)) ∷ z)
+      (e ∙ ap₂ (cut_off t) (ap (λ m. drop m orig) ends_at ∙ drop_both before size orig) (ap (λ m. drop m sizes) n))
+      ∙ ap (λ m. plain_piece t (take m (drop before orig)) ∷ cut_off t (drop m (drop before orig)) (drop (place + 1) sizes)) size_is
+      ∙ ap (cut_off t (drop before orig)) (sym (drop_more sizes place 0 (omega arith)))
 
-pub window_fits : (f : CellData → Bool) (n m : ℕ) (rows : List CellData) → all_by f rows ≡ true → all_by f (take n (drop m rows)) ≡ true
-window_fits f n m rows h = all_take f n (drop m rows) (all_drop f m rows h)
+-- blocks reach no further than their sizes
+pub cut_front : (t : Ty) (rows : List CellData) (ks : List ℕ) → cut_off t (take (sum ks) rows) ks ≡ cut_off t rows ks
+cut_front t rows [] = refl
+cut_front t rows (k ∷ ks) =
+    let e : sum (k ∷ ks) ≡ k + sum ks = sum_by-cons (λ x. x) k ks in
+    ap (λ n. cut_off t (take n rows) (k ∷ ks)) e
+    ∙ ap₂ (λ (first rest : List CellData). plain_piece t first ∷ cut_off t rest ks) (take-take k (k + sum ks) rows (omega arith)) (drop-take k (sum ks) rows)
+    ∙ ap (λ (cs : List ChunkData). plain_piece t (take k rows) ∷ cs) (cut_front t (drop k rows) ks)
 
-pub drop_trees : (n : ℕ) (cells : List Cell) → drop n (map tree cells) ≡ map tree (drop n cells)
-drop_trees n cells = drop-map tree n cells
+pub no_block : (t : Ty) (rows : List CellData) → length rows ≡ 0 → last_block t rows ≡ []
+no_block t [] e = refl
+no_block t (c ∷ cs) e = absurd (omega (arith, e))
 
-pub ruleset cut_rules = (length-map, drop_trees)
+pub one_block : (t : Ty) (rows : List CellData) → 0 < length rows → last_block t rows ≡ plain_piece t rows ∷ []
+one_block t [] lt = absurd (omega (arith, lt))
+one_block t (c ∷ cs) lt = refl
 
--- ---- cells behind others
+pub ruleset last_rules = (no_block, one_block, append-nil)
+
+-- ---- rows behind others
 
 pub left_over_is : (rows : List CellData) (ks : List ℕ) → left_over rows ks ≡ drop (sum ks) rows
 left_over_is rows [] = refl
@@ -77,21 +90,17 @@ left_over_is rows (k ∷ ks) = left_over_is (drop k rows) ks ∙ sym (drop_both 
 pub left_fit : (f : CellData → Bool) (n : ℕ) (rows more : List CellData) → all_by f rows ≡ true → all_by f more ≡ true → all_by f (drop n (rows ++ more)) ≡ true
 left_fit f n rows more g h = all_drop f n (rows ++ more) (all_append f rows more g h)
 
-module _ (cells rows added : List Cell) (held : ℕ) (whole : cells ≡ rows ++ added) (count : held ≡ length rows) where
-  pub trees_are : map tree cells ≡ map tree rows ++ map tree added
-  trees_are = ap (map tree) whole ∙ map-append tree rows added
-
-  points_are : (len : ℕ) → check_points len held (length cells - held) ≡ check_points len (length (map tree rows)) (length (map tree added))
+module _ (cells rows added : List CellData) (held : ℕ) (whole : cells ≡ rows ++ added) (count : held ≡ length rows) where
+  points_are : (len : ℕ) → check_points len held (length cells - held) ≡ check_points len (length rows) (length added)
   points_are len =
       let a : length cells ≡ length (rows ++ added) = ap length whole in
       let b : length (rows ++ added) ≡ length rows + length added = length-append rows added in
-      let c : length (map tree added) ≡ length added = length-map added tree in
-      ap₂ (check_points len) (count ∙ sym (length-map rows tree)) (let e : length cells - held ≡ length (map tree added) = omega arith in e)
+      ap₂ (check_points len) count (let e : length cells - held ≡ length added = omega arith in e)
 
-  pub sizes_are : (len minimum : ℕ) (t : Ty) → block_sizes len minimum t 0 (map tree cells) (check_points len held (length cells - held)) ≡ sizes_at (exactly len minimum) t (map tree rows) (plain_piece t (map tree added))
-  sizes_are len minimum t = ap₂ (λ (z : List CellData) (ps : List ℕ). block_sizes len minimum t 0 z ps) trees_are (points_are len)
+  pub sizes_are : (len minimum : ℕ) (t : Ty) → block_sizes len minimum t 0 cells (check_points len held (length cells - held)) ≡ sizes_at (exactly len minimum) t rows (plain_piece t added)
+  sizes_are len minimum t = ap₂ (λ (z : List CellData) (ps : List ℕ). block_sizes len minimum t 0 z ps) whole (points_are len)
 
-  pub tested_are : (len minimum : ℕ) (t : Ty) → tested_sizes len minimum t 0 (map tree cells) (check_points len held (length cells - held)) ≡ tested_by (exactly len minimum) t (map tree rows) (plain_piece t (map tree added))
-  tested_are len minimum t = ap₂ (λ (z : List CellData) (ps : List ℕ). tested_sizes len minimum t 0 z ps) trees_are (points_are len)
+  pub tested_are : (len minimum : ℕ) (t : Ty) → tested_sizes len minimum t 0 cells (check_points len held (length cells - held)) ≡ tested_by (exactly len minimum) t rows (plain_piece t added)
+  tested_are len minimum t = ap₂ (λ (z : List CellData) (ps : List ℕ). tested_sizes len minimum t 0 z ps) whole (points_are len)
 
-pub ruleset left_rules = (walk_rules, left_over_is, left_fit)
+pub ruleset left_rules = (left_over_is, left_fit, take_at)

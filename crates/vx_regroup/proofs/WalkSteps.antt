@@ -1,14 +1,11 @@
 -- Steps of a walk over check points.
-use Rattle.std.proofs.Common.{◌≡◌, ℕ, suc, ◌+◌, ◌-◌, ◌*◌, ◌/◌, ◌<◌, ◌≤◌, ◌^◌, ◌⊎◌, ◌&&◌, Bool, true, false, List, [], ◌∷◌, ◌++◌, map, length, take, drop, sum, sym, ap, ap₂, ◌∙◌, subst, arith, append_assoc}
+use Rattle.std.proofs.Common.{◌≡◌, ℕ, suc, ◌+◌, ◌-◌, ◌*◌, ◌/◌, ◌<◌, ◌≤◌, ◌^◌, ◌⊎◌, ◌&&◌, Bool, true, false, List, [], ◌∷◌, ◌++◌, length, take, drop, sum, sym, ap, ap₂, ◌∙◌, subst, arith, append_assoc}
 use Rattle.std.specs.Prelude.{if◌then◌else◌, nat_le, nat_lt, min, Option, Some}
-use Rattle.std.proofs.lemmas.List.{length-map, take-map, drop-map}
 use Rattle.std.proofs.lemmas.Bool.Decides.{nat_tests}
 use Rattle.std.proofs.Math.Nat.{mul-div-le}
 use Rattle.vx_model.specs.Words.{total_by}
 use Rattle.vx_model.specs.Ty.{Ty}
 use Rattle.vx_model.specs.CellData.{CellData, cell_size}
-use Rattle.vx_model.specs.declared.cell.Cell.{Cell}
-use Rattle.vx_model.specs.TreeView.{tree}
 use Rattle.vx_chunk_cells.proofs.SizeSteps.{total-append}
 use Rattle.vx_rules.specs.Blocks.{is_cut, cut_rows, block_sizes, tested_sizes, steps}
 use Rattle.vx_chunk.specs.declared.error.ChunkError.{ChunkError}
@@ -17,10 +14,6 @@ use Rattle.vx_regroup.specs.Refusals.{first_past, Refuses}
 use Rattle.vx_regroup.specs.Walks.{Stands, sizes_with, past_with}
 use Rattle.vx_regroup.proofs.Lists.{take_both, drop_both, sum-append}
 use Rattle.vx_regroup.proofs.PastSteps.{below, told_here}
-
-pub window_map : (f : CellData → ℕ) (cells : List Cell) (from to : ℕ)
-    → total_by f (map tree (take (to - from) (drop from cells))) ≡ total_by f (take (to - from) (drop from (map tree cells)))
-window_map f cells from to = ap (total_by f) (sym (take-map tree (to - from) (drop from cells)) ∙ ap (take (to - from)) (sym (drop-map tree from cells)))
 
 pub window_total : (f : CellData → ℕ) (rows : List CellData) (cut seen point : ℕ) → cut ≤ seen → seen ≤ point
     → total_by f (take (point - cut) (drop cut rows)) ≡ total_by f (take (seen - cut) (drop cut rows)) + total_by f (take (point - seen) (drop seen rows))
@@ -156,5 +149,3 @@ pub next_refused : (len minimum : ℕ) (t : Ty) (rows : List CellData) (cut seen
     → ((ps : List ℕ) → Refuses (past_with len minimum t rows cut ((seen + len) ∷ ps)) error)
     → Refuses all error
 next_refused len minimum t rows cut seen left last all error e h = subst (λ z. Refuses z error) e (h (steps (seen + len) len left ++ (last ∷ [])))
-
-pub ruleset walk_rules = (length-map, window_map)

@@ -1,18 +1,17 @@
 -- What the rules hold, as contracts see it.
-use Rattle.std.specs.Prelude.{◌≡◌, ℕ, ◌<◌, List, map, true, refl}
+use Rattle.std.specs.Prelude.{◌≡◌, ℕ, ◌<◌, List, true, refl}
 use Rattle.std.specs.Coded.{Coded, code_by, coded×, coded_ℕ, coded_list}
 use base.Stored.{Gv}
 use denote.Struct.Codes.{itself}
 use Rattle.vx_model.specs.declared.dtype.DType.{DType}
-use Rattle.vx_model.specs.declared.cell.Cell.{Cell}
 use Rattle.vx_model.specs.Words.{total_by, all_by}
 use Rattle.vx_model.specs.Ty.{Ty}
 use Rattle.vx_model.specs.CellData.{CellData, cell_size, fits}
 use Rattle.vx_model.specs.ChunkData.{ChunkData}
 use Rattle.vx_model.specs.TyView.{ty}
-use Rattle.vx_model.specs.TreeView.{tree}
 use Rattle.vx_model.specs.Codes.{ty_code, ty_of, ty_back}
-use Rattle.vx_chunk.specs.ChunkCode.{tree_code, tree_of, tree_back, piece_code}
+use Rattle.vx_typed.specs.CellCode.{tree_code, tree_of, tree_back}
+use Rattle.vx_chunk.specs.ChunkCode.{piece_code}
 use Rattle.vx_chunk.specs.Conditions.{are_of_type}
 
 -- A repartition: rows of a type, which leave in blocks of a multiple of `len` rows and of at least `minimum` bytes.
@@ -34,8 +33,8 @@ pub record AllHeld : Type 0 where
 
 -- ---- of what stands in memory
 
-abbrev pub rows_view : DType → ℕ → ℕ → List Cell → RowsHeld
-rows_view dtype len minimum cells = record { typed = ty dtype; len = len; minimum = minimum; rows = map tree cells }
+abbrev pub rows_view : DType → ℕ → ℕ → List CellData → RowsHeld
+rows_view dtype len minimum rows = record { typed = ty dtype; len = len; minimum = minimum; rows = rows }
 
 abbrev pub buffer_view : ℕ → List ChunkData → ChunksHeld
 buffer_view size chunks = record { size = size; chunks = chunks }

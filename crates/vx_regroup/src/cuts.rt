@@ -1,101 +1,91 @@
-//! Cells cut off and joined, moved as they are.
+//! Rows cut off in blocks.
 
-ghost use Rattle.std.specs.Prelude.{◌≡◌, ◌≤◌, ◌-◌, ◌++◌, map, length, take, drop, sum, IsTrue, IfOk, OnOk};
+ghost use Rattle.std.specs.Prelude.{◌≡◌, ◌≤◌, ◌-◌, ◌++◌, length, take, drop, sum, IsTrue, IfOk, OnOk};
 ghost use Rattle.vx_model.specs.Words.{all_by};
 ghost use Rattle.vx_model.specs.CellData.{fits};
+ghost use Rattle.vx_model.specs.ChunkData.{plain_piece};
 ghost use Rattle.vx_model.specs.TyView.{ty};
-ghost use Rattle.vx_model.specs.TreeView.{tree};
+ghost use Rattle.vx_column.specs.ColumnView.{column_cells};
 ghost use Rattle.vx_rules.specs.Blocks.{cut_off, last_block};
 
 use std::alloc::{AllocError, Global};
-use std::mem;
 use vx_chunk::Chunk;
-use vx_model::{Cell, DType};
+use vx_column::Column;
+use vx_model::DType;
 
-/// The first cells in plain chunks of these sizes, and the cells that are left. They are cut from the back, so that each
-/// cell is moved once.
-#[tactic(auto, using(crate::proofs::CutSteps::cut_rules))]
+/// The first rows in plain chunks of these sizes, and the rows that are left: typed values stay where they are, in memory
+/// that the chunks and the rest share, and each cell is moved once.
 pub(crate) fn blocks_off(
     alloc: Global,
     dtype: &DType,
-    mut cells: Vec<Cell>,
+    rows: Column,
     sizes: &[usize],
     cut: usize,
-) -> Result<(Vec<Chunk>, Vec<Cell>), AllocError>
-    requires fit { IsTrue (all_by (fits (ty dtype.now)) (map tree cells.items)) }
+) -> Result<(Vec<Chunk>, Column), AllocError>
+    requires fit { IsTrue (all_by (fits (ty dtype.now)) (column_cells rows)) }
     requires summed { sum sizes.now ≡ cut }
-    requires within { cut ≤ length cells.items }
-    ensures leaves { IfOk result (λ r. r.0.items ≡ cut_off (ty dtype.now) (map tree cells.items) sizes.now) }
-    ensures left { IfOk result (λ r. map tree r.1.items ≡ drop cut (map tree cells.items)) }
+    requires within { cut ≤ length (column_cells rows) }
+    ensures leaves { IfOk result (λ r. r.0.items ≡ cut_off (ty dtype.now) (column_cells rows) sizes.now) }
+    ensures left { IfOk result (λ r. column_cells r.1 ≡ drop cut (column_cells rows)) }
 {
-    let left = cells.len() - cut;
-    let rest = take_last(&mut cells, left)?;
-    let mut blocks = Vec::with_capacity(alloc, sizes.len())?;
-    for k in 0..sizes.len() {
-        let size = sizes[sizes.len() - 1 - k];
-        let rows = take_block(&mut cells, size)?;
-        blocks.push(Chunk::plain(dtype.clone()?, rows))?;
-    }
-    blocks.reverse();
+    let (front, rest) = rows.split(alloc, cut as u64)?;
+    let blocks = blocks_of(alloc, dtype, front, sizes)?;
     Ok((blocks, rest))
 }
 
-/// The last cells, which leave the others; where these are all, the vector itself.
-fn take_last(cells: &mut Vec<Cell>, size: usize) -> Result<Vec<Cell>, AllocError>
-    requires { size ≤ length cells.old.items }
-    ensures left { OnOk result (cells.new.items ≡ take (length cells.old.items - size) cells.old.items) }
-    ensures taken { IfOk result (λ v. v.items ≡ drop (length cells.old.items - size) cells.old.items) }
+/// All rows in plain chunks of these sizes, cut from the back.
+fn blocks_of(
+    alloc: Global,
+    dtype: &DType,
+    rows: Column,
+    sizes: &[usize],
+) -> Result<Vec<Chunk>, AllocError>
+    requires fit { IsTrue (all_by (fits (ty dtype.now)) (column_cells rows)) }
+    requires summed { sum sizes.now ≡ length (column_cells rows) }
+    ensures { IfOk result (λ v. v.items ≡ cut_off (ty dtype.now) (column_cells rows) sizes.now) }
 {
-    if size == cells.len() {
-        let empty = Vec::new(*cells.allocator());
-        return Ok(mem::replace(cells, empty));
+    let mut front = rows;
+    let mut blocks = Vec::with_capacity(alloc, sizes.len())?;
+    for k in 0..sizes.len() {
+        let (before, block) = last_off(alloc, dtype, front, sizes[sizes.len() - 1 - k])?;
+        front = before;
+        blocks.push(block)?;
     }
-    cells.split_off(cells.len() - size)
+    blocks.reverse();
+    Ok(blocks)
 }
 
-/// The same, in a vector that uses at least half of its room.
-fn take_block(cells: &mut Vec<Cell>, size: usize) -> Result<Vec<Cell>, AllocError>
-    requires { size ≤ length cells.old.items }
-    ensures left { OnOk result (cells.new.items ≡ take (length cells.old.items - size) cells.old.items) }
-    ensures taken { IfOk result (λ v. v.items ≡ drop (length cells.old.items - size) cells.old.items) }
+/// The rows before the last ones, and these in a plain chunk.
+fn last_off(
+    alloc: Global,
+    dtype: &DType,
+    rows: Column,
+    size: usize,
+) -> Result<(Column, Chunk), AllocError>
+    requires fit { IsTrue (all_by (fits (ty dtype.now)) (column_cells rows)) }
+    requires within { size ≤ length (column_cells rows) }
+    ensures before { IfOk result (λ r. column_cells r.0 ≡ take (length (column_cells rows) - size) (column_cells rows)) }
+    ensures block { IfOk result (λ r. r.1 ≡ plain_piece (ty dtype.now) (drop (length (column_cells rows) - size) (column_cells rows))) }
 {
-    let mut block = take_last(cells, size)?;
-    trim(&mut block);
-    Ok(block)
+    let dtype = dtype.clone()?;
+    let place = rows.len() - size;
+    let (before, block) = rows.split(alloc, place as u64)?;
+    Ok((before, Chunk::column(dtype, block)))
 }
 
-/// Gives room back where less than half of it is used.
-fn trim(cells: &mut Vec<Cell>)
-    ensures { cells.new.items ≡ cells.old.items }
-{
-    if cells.len() < cells.capacity() / 2 {
-        cells.shrink_to_fit();
-    }
-}
-
-/// A last block, where cells are left.
+/// A last block, where rows are left.
+#[tactic(auto, using(crate::proofs::CutSteps::last_rules))]
 pub(crate) fn push_last(
     dtype: &DType,
-    left: Vec<Cell>,
+    left: Column,
     blocks: &mut Vec<Chunk>,
 ) -> Result<(), AllocError>
-    requires { IsTrue (all_by (fits (ty dtype.now)) (map tree left.items)) }
-    ensures { OnOk result (blocks.new.items ≡ blocks.old.items ++ last_block (ty dtype.now) (map tree left.items)) }
+    requires { IsTrue (all_by (fits (ty dtype.now)) (column_cells left)) }
+    ensures { OnOk result (blocks.new.items ≡ blocks.old.items ++ last_block (ty dtype.now) (column_cells left)) }
 {
-    if left.is_empty() {
+    if left.len() == 0 {
         return Ok(());
     }
-    blocks.push(Chunk::plain(dtype.clone()?, left))?;
+    blocks.push(Chunk::column(dtype.clone()?, left))?;
     Ok(())
-}
-
-/// The cells, and those added behind them; where there were none, the added ones as they are.
-pub(crate) fn joined(mut cells: Vec<Cell>, mut added: Vec<Cell>) -> Result<Vec<Cell>, AllocError>
-    ensures { IfOk result (λ v. v.items ≡ cells.items ++ added.items) }
-{
-    if cells.is_empty() {
-        return Ok(added);
-    }
-    cells.append(&mut added)?;
-    Ok(cells)
 }

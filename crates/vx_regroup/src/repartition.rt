@@ -1,24 +1,25 @@
 //! Rows leave in blocks of a multiple of the block length.
 
-ghost use Rattle.std.specs.Prelude.{◌≡◌, ◌<◌, [], false, map, IfOk, OnOk, IfErr, IsTrue};
+ghost use Rattle.std.specs.Prelude.{◌≡◌, ◌<◌, [], false, IfOk, OnOk, IfErr, IsTrue};
 ghost use Rattle.vx_model.specs.ChunkData.{piece_type, plain_piece};
 ghost use Rattle.vx_model.specs.TyView.{ty};
-ghost use Rattle.vx_model.specs.TreeView.{tree};
 ghost use Rattle.vx_model.specs.Words.{total_by, all_by};
 ghost use Rattle.vx_model.specs.CellData.{cell_size as size_of, fits};
+ghost use Rattle.vx_column.specs.ColumnView.{column_cells};
 ghost use Rattle.vx_rules.specs.Blocks.{BlockOptions, block_len, blocks};
 ghost use Rattle.vx_plan.specs.GroupNode.{tested_at as tested_by};
 ghost use Rattle.vx_regroup.specs.Held.{rows_view};
 ghost use Rattle.vx_regroup.specs.Refusals.{first_past, Refuses};
 ghost use Rattle.vx_regroup.specs.Rules.{given, exactly, block_rule, rows_after, tested_at};
 
-use crate::cuts::{blocks_off, joined, push_last};
+use crate::cuts::{blocks_off, push_last};
 use crate::walk::walked;
 use std::alloc::Global;
 use std::marker::Model;
 use std::mem;
 use vx_chunk::{Chunk, ChunkError};
-use vx_model::{Cell, DType};
+use vx_column::{Column, no_rows};
+use vx_model::DType;
 
 /// Holds rows until they leave in blocks, which are plain.
 #[derive(Drop)]
@@ -26,20 +27,21 @@ pub struct Repartition {
     dtype: DType,
     len: usize,
     minimum: u64,
-    rows: Vec<Cell>,
+    rows: Column,
     total: u64,
 }
 
 impl Model for Repartition {
+    ghost use Rattle.vx_column.specs.ColumnView.{column_cells};
     ghost use Rattle.vx_regroup.specs.Held.{RowsHeld, rows_code, rows_view, RowsStand};
 
     ghost Value = { RowsHeld };
 
     ghost coded = { rows_code };
 
-    ghost view = { λ r. rows_view r.dtype r.len r.minimum r.rows.items };
+    ghost view = { λ r. rows_view r.dtype r.len r.minimum (column_cells r.rows) };
 
-    ghost invariant = { λ r. RowsStand (rows_view r.dtype r.len r.minimum r.rows.items) r.total };
+    ghost invariant = { λ r. RowsStand (rows_view r.dtype r.len r.minimum (column_cells r.rows)) r.total };
 }
 
 impl Repartition {
@@ -55,7 +57,7 @@ impl Repartition {
             dtype,
             len: len as usize,
             minimum,
-            rows: Vec::new(alloc),
+            rows: no_rows(alloc),
             total: 0,
         }
     }
@@ -76,10 +78,10 @@ impl Repartition {
         ensures refused { IfErr result (Refuses (first_past (tested_at self.old chunk))) }
     {
         chunk.sound();
-        let added = chunk.into_cells(alloc)?;
+        let added = chunk.into_column(alloc)?;
         let total = self.total;
         self.total = 0;
-        let rows = mem::replace(&mut self.rows, Vec::new(alloc));
+        let rows = mem::replace(&mut self.rows, no_rows(alloc));
         let (mut blocks, left, total) = cut_behind(
             alloc,
             &self.dtype,
@@ -99,7 +101,7 @@ impl Repartition {
     }
 }
 
-/// The blocks that leave where cells come behind the rows, which take `total` bytes; the rows that are left, and their
+/// The blocks that leave where others come behind the rows, which take `total` bytes; the rows that are left, and their
 /// bytes.
 #[tactic(auto, using(crate::proofs::CutSteps::left_rules))]
 fn cut_behind(
@@ -107,23 +109,23 @@ fn cut_behind(
     dtype: &DType,
     len: usize,
     minimum: u64,
-    rows: Vec<Cell>,
-    added: Vec<Cell>,
+    rows: Column,
+    added: Column,
     total: u64,
-) -> Result<(Vec<Chunk>, Vec<Cell>, u64), ChunkError>
+) -> Result<(Vec<Chunk>, Column, u64), ChunkError>
     requires some { 0 < len }
-    requires fit { IsTrue (all_by (fits (ty dtype.now)) (map tree rows.items)) }
-    requires more_fit { IsTrue (all_by (fits (ty dtype.now)) (map tree added.items)) }
-    requires summed { total ≡ total_by (size_of (ty dtype.now)) (map tree rows.items) }
-    ensures leaves { IfOk result (λ r. r.0.items ≡ (blocks (exactly len minimum) (ty dtype.now)).leaves (map tree rows.items) (plain_piece (ty dtype.now) (map tree added.items))) }
-    ensures left { IfOk result (λ r. map tree r.1.items ≡ (blocks (exactly len minimum) (ty dtype.now)).holds (map tree rows.items) (plain_piece (ty dtype.now) (map tree added.items))) }
-    ensures fit { IfOk result (λ r. IsTrue (all_by (fits (ty dtype.now)) (map tree r.1.items))) }
-    ensures summed { IfOk result (λ r. r.2 ≡ total_by (size_of (ty dtype.now)) (map tree r.1.items)) }
-    ensures fits { OnOk result (first_past (tested_by (exactly len minimum) (ty dtype.now) (map tree rows.items) (plain_piece (ty dtype.now) (map tree added.items))) ≡ None) }
-    ensures refused { IfErr result (Refuses (first_past (tested_by (exactly len minimum) (ty dtype.now) (map tree rows.items) (plain_piece (ty dtype.now) (map tree added.items))))) }
+    requires fit { IsTrue (all_by (fits (ty dtype.now)) (column_cells rows)) }
+    requires more_fit { IsTrue (all_by (fits (ty dtype.now)) (column_cells added)) }
+    requires summed { total ≡ total_by (size_of (ty dtype.now)) (column_cells rows) }
+    ensures leaves { IfOk result (λ r. r.0.items ≡ (blocks (exactly len minimum) (ty dtype.now)).leaves (column_cells rows) (plain_piece (ty dtype.now) (column_cells added))) }
+    ensures left { IfOk result (λ r. column_cells r.1 ≡ (blocks (exactly len minimum) (ty dtype.now)).holds (column_cells rows) (plain_piece (ty dtype.now) (column_cells added))) }
+    ensures fit { IfOk result (λ r. IsTrue (all_by (fits (ty dtype.now)) (column_cells r.1))) }
+    ensures summed { IfOk result (λ r. r.2 ≡ total_by (size_of (ty dtype.now)) (column_cells r.1)) }
+    ensures fits { OnOk result (first_past (tested_by (exactly len minimum) (ty dtype.now) (column_cells rows) (plain_piece (ty dtype.now) (column_cells added))) ≡ None) }
+    ensures refused { IfErr result (Refuses (first_past (tested_by (exactly len minimum) (ty dtype.now) (column_cells rows) (plain_piece (ty dtype.now) (column_cells added))))) }
 {
     let held = rows.len();
-    let rows = joined(rows, added)?;
+    let rows = rows.append(alloc, added)?;
     let walk = walked(alloc, dtype, len, minimum, &rows, held, total)?;
     let (blocks, left) = blocks_off(alloc, dtype, rows, &walk.sizes, walk.cut)?;
     Ok((blocks, left, walk.total))

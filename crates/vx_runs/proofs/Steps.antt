@@ -1,13 +1,13 @@
 -- Steps of the cutter, a row at a time.
-use Rattle.std.proofs.Common.{◌≡◌, ℕ, ◌+◌, ◌<◌, ◌≤◌, ◌^◌, ◌⊎◌, ◌&&◌, ◌||◌, Bool, true, false, List, [], ◌∷◌, ◌++◌, map, length, refl, sym, inl, inr, ⊎_elim, ap, ap₂, ◌∙◌, subst, arith, length-append}
+use Rattle.std.proofs.Common.{◌≡◌, ℕ, ◌+◌, ◌<◌, ◌≤◌, ◌^◌, ◌⊎◌, ◌&&◌, ◌||◌, Bool, true, false, List, [], ◌∷◌, ◌++◌, map, length, drop, get_or, refl, sym, inl, inr, ⊎_elim, ap, ap₂, ◌∙◌, subst, arith, length-append}
 use Rattle.std.specs.Prelude.{nat_le}
 use Rattle.std.proofs.lemmas.Bool.Decides.{nat_tests}
-use Rattle.std.proofs.lemmas.List.{append-nil}
+use Rattle.std.proofs.lemmas.List.{append-nil, drop_more}
+use Rattle.std.proofs.lemmas.Bool.{and_parts}
 use Rattle.vx_model.specs.Words.{total_by, all_by}
 use Rattle.vx_model.specs.Ty.{Ty}
-use Rattle.vx_model.specs.CellData.{CellData, fits}
+use Rattle.vx_model.specs.CellData.{CellData, null_cell, fits}
 use Rattle.vx_model.specs.ChunkData.{is_dict_type}
-use Rattle.vx_model.specs.declared.cell.Cell.{Cell}
 use Rattle.vx_model.specs.TreeView.{tree}
 use Rattle.vx_rules.specs.Runs.{DictOptions, Cut, behind, stretches, same_cell, has_cell, place_in, cell_cost, cells_fit, most_cells}
 use Rattle.vx_runs.specs.declared.rows.Closed.{Closed}
@@ -100,22 +100,22 @@ cut_ends o t closed next ds first codes zeros c more h f e n g =
 
 -- ---- all rows
 
--- the first of the cells that are left
-pub first_plain : (t : Ty) (c : Cell) (cells rest : List Cell) → cells ≡ c ∷ rest → is_dict_type t ≡ true → all_by (fits t) (map tree cells) ≡ true → same_cell (tree c) (tree c) ≡ true
-first_plain t c cells rest e d f = self_same t (tree c) d (left (fits t (tree c)) (all_by (fits t) (map tree rest)) (ap (λ (z : List Cell). all_by (fits t) (map tree z)) (sym e) ∙ f))
-  where
-    left : (a b : Bool) → (a && b) ≡ true → a ≡ true
-    left true b h = refl
-    left false b h = h
+-- the cell of the next row
+module _ (cs : List CellData) (i : ℕ) (c : CellData) (lt : i < length cs) (is : c ≡ get_or cs i null_cell) where
+  pub next_row : drop i cs ≡ c ∷ drop (i + 1) cs
+  next_row = drop_more cs i null_cell lt ∙ ap (λ (d : CellData). d ∷ drop (i + 1) cs) (sym is)
 
-pub rest_fit : (t : Ty) (c : Cell) (cells rest : List Cell) → cells ≡ c ∷ rest → all_by (fits t) (map tree cells) ≡ true → all_by (fits t) (map tree rest) ≡ true
-rest_fit t c cells rest e f = right (fits t (tree c)) (all_by (fits t) (map tree rest)) (ap (λ (z : List Cell). all_by (fits t) (map tree z)) (sym e) ∙ f)
-  where
-    right : (a b : Bool) → (a && b) ≡ true → b ≡ true
-    right true b h = h
-    right false b h = cc
+  module _ (t : Ty) (fit : all_by (fits t) (drop i cs) ≡ true) where
+    both_fit : (fits t c && all_by (fits t) (drop (i + 1) cs)) ≡ true
+    both_fit = sym (ap (all_by (fits t)) next_row) ∙ fit
 
-pub ruleset row_rules = (cut_known, cut_new, one_runs, behind_push, first_plain, rest_fit)
+    pub row_plain : is_dict_type t ≡ true → same_cell c c ≡ true
+    row_plain d = self_same t c d (and_parts (fits t c) (all_by (fits t) (drop (i + 1) cs)) both_fit).0
+
+    pub rest_fit : all_by (fits t) (drop (i + 1) cs) ≡ true
+    rest_fit = (and_parts (fits t c) (all_by (fits t) (drop (i + 1) cs)) both_fit).1
+
+pub ruleset row_rules = (cut_known, cut_new, one_runs, behind_push)
 
 -- nothing is left
 behind_is : (closed : List Closed) (cut : Cut) → behind_all closed cut ≡ record { closed = pairs closed ++ cut.closed; codes = cut.codes; distinct = cut.distinct }

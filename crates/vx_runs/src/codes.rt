@@ -26,7 +26,7 @@ pub fn codes_chunk(
     ensures { IfOk result (λ c. c ≡ codes_piece (dict_options limits 0) codes.now) }
 {
     let cells = code_cells(alloc, codes)?;
-    Ok(Chunk::plain(code_dtype(limits), cells))
+    Ok(Chunk::typed(alloc, code_dtype(limits), cells)?)
 }
 
 /// The type of codes, by the greatest number of cells.

@@ -1,11 +1,11 @@
 //! The rule that cuts a stream into runs.
 
-ghost use Rattle.std.specs.Prelude.{◌≡◌, ℕ, ◌<◌, ◌^◌, [], false, map, IsTrue, IfOk, IfErr, OnOk};
+ghost use Rattle.std.specs.Prelude.{◌≡◌, ℕ, ◌<◌, ◌^◌, [], false, IsTrue, IfOk, IfErr, OnOk};
 ghost use Rattle.vx_model.specs.Words.{all_by};
 ghost use Rattle.vx_model.specs.CellData.{fits};
 ghost use Rattle.vx_model.specs.ChunkData.{piece_type, is_dict_type};
 ghost use Rattle.vx_model.specs.TyView.{ty};
-ghost use Rattle.vx_model.specs.TreeView.{tree};
+ghost use Rattle.vx_column.specs.ColumnView.{column_cells};
 ghost use Rattle.vx_chunk.specs.Conditions.{IsTooLarge};
 ghost use Rattle.vx_rules.specs.Runs.{stretches};
 ghost use Rattle.vx_react.specs.Cutter.{cut_outputs, next_number};
@@ -19,7 +19,8 @@ use std::alloc::Global;
 use std::marker::Model;
 use std::mem;
 use vx_chunk::{Chunk, ChunkError};
-use vx_model::{Cell, DType};
+use vx_column::Column;
+use vx_model::DType;
 use vx_react::Place;
 use vx_slots::CellTable;
 use vx_strategy_options::DictLayoutConstraints;
@@ -88,8 +89,8 @@ impl RunCutter {
     }
 
     /// What the chunk gives, in order of rank; at the last one the values of the run that goes on too. Takes time by
-    /// the rows. The cells are those of `Chunk::into_cells`; one that is new in its run moves into the run's values, so
-    /// none is copied here. `TooLarge` tells the number of the run that goes on, where it passes u64. After an error
+    /// the rows, which are those of `Chunk::into_column`; one that is new in its run is copied into the run's values, and
+    /// no other. `TooLarge` tells the number of the run that goes on, where it passes u64. After an error
     /// nothing is known of that run.
     pub fn react(
         &mut self,
@@ -104,9 +105,9 @@ impl RunCutter {
         ensures refused { IfErr result (IsTooLarge (held_at 0 self.old item).number) }
     {
         item.sound();
-        let cells = item.into_cells(alloc)?;
+        let column = item.into_column(alloc)?;
         let run = mem::replace(&mut self.run, OpenRun::first(alloc));
-        let cut = cut_off(alloc, &self.dtype, self.constraints, run, cells, last)?;
+        let cut = cut_off(alloc, &self.dtype, self.constraints, run, &column, last)?;
         self.run = cut.run;
         Ok(cut.outputs)
     }
@@ -125,24 +126,24 @@ fn cut_off(
     dtype: &DType,
     limits: DictLayoutConstraints,
     run: OpenRun,
-    cells: Vec<Cell>,
+    column: &Column,
     last: bool,
 ) -> Result<CutOff, ChunkError>
     requires standing { Standing (dict_options limits 0) (ty dtype.now) run.distinct run.cost }
-    requires fit { IsTrue (all_by (fits (ty dtype.now)) (map tree cells.items)) }
-    ensures gives { IfOk result (λ r. r.outputs.items ≡ cut_outputs (dict_options limits 0) (ty dtype.now) run.number (stretches (dict_options limits 0) (ty dtype.now) run.distinct [] (map tree cells.items)) last) }
-    ensures number { IfOk result (λ r. last ≡ false → r.run.number ≡ next_number run.number (stretches (dict_options limits 0) (ty dtype.now) run.distinct [] (map tree cells.items)).closed) }
-    ensures distinct { IfOk result (λ r. last ≡ false → r.run.distinct ≡ (stretches (dict_options limits 0) (ty dtype.now) run.distinct [] (map tree cells.items)).distinct) }
+    requires fit { IsTrue (all_by (fits (ty dtype.now)) (column_cells column.now)) }
+    ensures gives { IfOk result (λ r. r.outputs.items ≡ cut_outputs (dict_options limits 0) (ty dtype.now) run.number (stretches (dict_options limits 0) (ty dtype.now) run.distinct [] (column_cells column.now)) last) }
+    ensures number { IfOk result (λ r. last ≡ false → r.run.number ≡ next_number run.number (stretches (dict_options limits 0) (ty dtype.now) run.distinct [] (column_cells column.now)).closed) }
+    ensures distinct { IfOk result (λ r. last ≡ false → r.run.distinct ≡ (stretches (dict_options limits 0) (ty dtype.now) run.distinct [] (column_cells column.now)).distinct) }
     ensures standing { IfOk result (λ r. Standing (dict_options limits 0) (ty dtype.now) r.run.distinct r.run.cost) }
-    ensures fits { OnOk result (next_number run.number (stretches (dict_options limits 0) (ty dtype.now) run.distinct [] (map tree cells.items)).closed < 2 ^ 64) }
-    ensures refused { IfErr result (IsTooLarge (next_number run.number (stretches (dict_options limits 0) (ty dtype.now) run.distinct [] (map tree cells.items)).closed)) }
+    ensures fits { OnOk result (next_number run.number (stretches (dict_options limits 0) (ty dtype.now) run.distinct [] (column_cells column.now)).closed < 2 ^ 64) }
+    ensures refused { IfErr result (IsTooLarge (next_number run.number (stretches (dict_options limits 0) (ty dtype.now) run.distinct [] (column_cells column.now)).closed)) }
 {
     let OpenRun {
         number,
         distinct,
         cost,
     } = run;
-    let rows = cut(alloc, dtype, limits, distinct, cost, cells)?;
+    let rows = cut(alloc, dtype, limits, distinct, cost, column)?;
     let Rows {
         closed,
         codes,

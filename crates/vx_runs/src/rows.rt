@@ -6,6 +6,8 @@ ghost use Rattle.vx_model.specs.CellData.{CellData, fits};
 ghost use Rattle.vx_model.specs.ChunkData.{is_dict_type};
 ghost use Rattle.vx_model.specs.TyView.{ty};
 ghost use Rattle.vx_model.specs.TreeView.{tree};
+ghost use Rattle.vx_typed.specs.Lent.{lent_cell};
+ghost use Rattle.vx_column.specs.ColumnView.{column_cells};
 ghost use Rattle.vx_rules.specs.Runs.{Cut, behind, stretches, cells_fit, cell_cost, same_cell};
 ghost use Rattle.vx_strategy_options.specs.OptionViews.{dict_options};
 ghost use Rattle.vx_runs.specs.Cutting.{behind_all, cut_with, cut_of, Running};
@@ -13,9 +15,11 @@ ghost use Rattle.vx_runs.specs.Cutting.{behind_all, cut_with, cut_of, Running};
 use crate::costs::cell_cost;
 use std::alloc::{AllocError, Global};
 use std::mem;
+use vx_column::Column;
 use vx_model::{Cell, DType};
 use vx_slots::CellTable;
 use vx_strategy_options::DictLayoutConstraints;
+use vx_typed::{Lent, own_cell};
 
 /// A run's codes at the chunk in which it ends, and its distinct cells.
 #[derive(Drop)]
@@ -35,7 +39,7 @@ pub(crate) struct Rows {
 }
 
 /// Cuts a chunk's rows behind the distinct cells of the run that goes on. The cells that are new in their run are
-/// moved, and none is copied.
+/// copied, and no others.
 #[tactic(auto, using(crate::proofs::Steps::cut_rules))]
 pub(crate) fn cut(
     alloc: Global,
@@ -43,21 +47,21 @@ pub(crate) fn cut(
     limits: DictLayoutConstraints,
     distinct: CellTable,
     cost: u128,
-    cells: Vec<Cell>,
+    column: &Column,
 ) -> Result<Rows, AllocError>
     requires dict { IsTrue (is_dict_type (ty dtype.now)) }
-    requires fit { IsTrue (all_by (fits (ty dtype.now)) (map tree cells.items)) }
+    requires fit { IsTrue (all_by (fits (ty dtype.now)) (column_cells column.now)) }
     requires running { Running (dict_options limits 0) (ty dtype.now) distinct cost }
-    ensures cut { IfOk result (λ r. cut_of r.closed.items r.codes.items r.distinct ≡ stretches (dict_options limits 0) (ty dtype.now) distinct [] (map tree cells.items)) }
+    ensures cut { IfOk result (λ r. cut_of r.closed.items r.codes.items r.distinct ≡ stretches (dict_options limits 0) (ty dtype.now) distinct [] (column_cells column.now)) }
     ensures running { IfOk result (λ r. Running (dict_options limits 0) (ty dtype.now) r.distinct r.cost) }
 {
     let mut rows = Rows {
         closed: Vec::new(alloc),
-        codes: Vec::with_capacity(alloc, cells.len())?,
+        codes: Vec::with_capacity(alloc, column.len())?,
         distinct,
         cost,
     };
-    add_rows(&mut rows, alloc, dtype, limits, cells)?;
+    add_rows(&mut rows, alloc, dtype, limits, column)?;
     Ok(rows)
 }
 
@@ -67,19 +71,42 @@ fn add_rows(
     alloc: Global,
     dtype: &DType,
     limits: DictLayoutConstraints,
-    cells: Vec<Cell>,
+    column: &Column,
 ) -> Result<(), AllocError>
     requires dict { IsTrue (is_dict_type (ty dtype.now)) }
-    requires fit { IsTrue (all_by (fits (ty dtype.now)) (map tree cells.items)) }
+    requires fit { IsTrue (all_by (fits (ty dtype.now)) (column_cells column.now)) }
     requires running { Running (dict_options limits 0) (ty dtype.now) rows.old.distinct rows.old.cost }
     ensures running { OnOk result (Running (dict_options limits 0) (ty dtype.now) rows.new.distinct rows.new.cost) }
     ensures cut { OnOk result (cut_with (dict_options limits 0) (ty dtype.now) rows.new.closed.items rows.new.distinct rows.new.codes.items []
-        ≡ cut_with (dict_options limits 0) (ty dtype.now) rows.old.closed.items rows.old.distinct rows.old.codes.items (map tree cells.items)) }
+        ≡ cut_with (dict_options limits 0) (ty dtype.now) rows.old.closed.items rows.old.distinct rows.old.codes.items (column_cells column.now)) }
 {
-    for cell in cells {
-        add_row(rows, alloc, dtype, limits, cell)?;
+    for row in 0..column.len() {
+        add_lent(rows, alloc, dtype, limits, column.row(row))?;
     }
     Ok(())
+}
+
+/// A row whose cell is known has its place; another is added as `add_row` does.
+#[tactic(auto, using(crate::proofs::Steps::row_rules))]
+fn add_lent(
+    rows: &mut Rows,
+    alloc: Global,
+    dtype: &DType,
+    limits: DictLayoutConstraints,
+    cell: Lent<'_>,
+) -> Result<(), AllocError>
+    requires plain { IsTrue (same_cell (lent_cell cell) (lent_cell cell)) }
+    requires running { Running (dict_options limits 0) (ty dtype.now) rows.old.distinct rows.old.cost }
+    ensures running { OnOk result (Running (dict_options limits 0) (ty dtype.now) rows.new.distinct rows.new.cost) }
+    ensures cut { OnOk result ((more : List CellData) → cut_with (dict_options limits 0) (ty dtype.now) rows.new.closed.items rows.new.distinct rows.new.codes.items more
+        ≡ cut_with (dict_options limits 0) (ty dtype.now) rows.old.closed.items rows.old.distinct rows.old.codes.items (lent_cell cell.entry ∷ more)) }
+{
+    if let Some(place) = rows.distinct.find_lent(cell) {
+        rows.codes.push(place)?;
+        return Ok(());
+    }
+    let cell = own_cell(alloc, cell)?;
+    add_row(rows, alloc, dtype, limits, cell)
 }
 
 /// A row joins the run where its distinct cells still fit with it, and else begins the next one.

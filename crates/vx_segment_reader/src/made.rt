@@ -11,8 +11,8 @@ use crate::error::DecodeError;
 use crate::rest::Rest;
 use std::alloc::Global;
 use vx_chunk::Chunk;
-use vx_chunk::conditions::are_codes;
 use vx_chunk_cells::are_offsets;
+use vx_chunk_conditions::are_codes;
 use vx_model::DType;
 
 /// Whether there is a code a row, each below the number of values.

@@ -1,10 +1,11 @@
 //! Chunks without parts, and dictionaries of them.
 
-ghost use Rattle.std.specs.Prelude.{◌≡◌, ◌+◌, if◌then◌else◌, map, length, IfOk, IsTrue, slice_get};
+ghost use Rattle.std.specs.Prelude.{◌≡◌, ◌+◌, if◌then◌else◌, length, IfOk, IsTrue, slice_get};
 ghost use Rattle.vx_model.specs.Words.{all_by};
 ghost use Rattle.vx_model.specs.CellData.{fits};
 ghost use Rattle.vx_model.specs.TyView.{ty};
 ghost use Rattle.vx_model.specs.TreeView.{tree};
+ghost use Rattle.vx_column.specs.ColumnView.{column_cells};
 ghost use Rattle.vx_cell_codec.specs.Reading.{cells_at, only_cell_at};
 ghost use Rattle.vx_cell_codec.specs.Columns.{offsets_at, flags_at};
 ghost use Rattle.vx_segment_spec.specs.Pieces.{given, flags_of, plain_at, constant_at, simple_at};
@@ -14,8 +15,10 @@ use crate::error::DecodeError;
 use crate::node::Node;
 use crate::rest::{Frame, Rest, is_shaped, next_buffer, next_node, number};
 use std::alloc::Global;
-use vx_cell_codec::{CellError, read_cell, read_cells, read_flags, read_offsets};
+use vx_cell_codec::{CellError, read_cell, read_flags, read_offsets};
 use vx_chunk::Chunk;
+use vx_column::Column;
+use vx_column_codec::read_column;
 use vx_model::{Cell, DType, EncodingId};
 
 /// The fault of the node of number `k`, where its cells can't be read.
@@ -28,18 +31,18 @@ fn fault_of(k: u64, error: CellError) -> DecodeError
     }
 }
 
-fn cells_of(
+fn column_of(
     alloc: Global,
     dtype: &DType,
     k: u64,
     rows: u64,
     bytes: &[u8],
-) -> Result<Vec<Cell>, DecodeError>
-    ensures read { Gives (λ v. map tree v.items) result (given k (cells_at (ty dtype.now) rows bytes.now)) }
-    ensures fit { IfOk result (λ v. IsTrue (all_by (fits (ty dtype.now)) (map tree v.items))) }
+) -> Result<Column, DecodeError>
+    ensures read { Gives column_cells result (given k (cells_at (ty dtype.now) rows bytes.now)) }
+    ensures fit { IfOk result (λ c. IsTrue (all_by (fits (ty dtype.now)) (column_cells c))) }
 {
-    match read_cells(alloc, dtype, rows, bytes) {
-        Ok(cells) => Ok(cells),
+    match read_column(alloc, dtype, rows, bytes) {
+        Ok(column) => Ok(column),
         Err(error) => Err(fault_of(k, error)),
     }
 }
@@ -106,9 +109,9 @@ pub(crate) fn read_plain<'a>(
         return Err(DecodeError::BadType(k));
     }
     let (buffer, rest) = next_buffer(k, rest)?;
-    let cells = cells_of(alloc, dtype, k, node.rows, buffer)?;
+    let column = column_of(alloc, dtype, k, node.rows, buffer)?;
     let dtype = dtype.clone()?;
-    Ok((Chunk::plain(dtype, cells), rest))
+    Ok((Chunk::column(dtype, column), rest))
 }
 
 #[tactic(auto, unfolding(vx_segment_spec::specs::Pieces::constant_at))]

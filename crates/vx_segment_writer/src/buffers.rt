@@ -5,13 +5,16 @@ ghost use Rattle.vx_model.specs.Words.{all_by, joined_by};
 ghost use Rattle.vx_model.specs.CellData.{bit, u64_bytes, fits, spelling};
 ghost use Rattle.vx_model.specs.TyView.{ty};
 ghost use Rattle.vx_model.specs.TreeView.{tree};
+ghost use Rattle.vx_column.specs.ColumnView.{column_cells};
 ghost use Rattle.vx_segment_writer.specs.Segment.{own_buffers, padding_at, validity_buffer};
 ghost use Rattle.vx_segment_writer.specs.Written.{HasBuffers};
 
 use crate::head::push_numbers;
 use std::alloc::AllocError;
-use vx_cell_codec::{push_cell, push_cells};
+use vx_cell_codec::push_cell;
 use vx_chunk::{Chunk, Node};
+use vx_column::Column;
+use vx_column_codec::push_column;
 use vx_model::{Cell, DType};
 
 /// Zeros up to the next multiple of eight.
@@ -27,19 +30,19 @@ fn push_padding(out: &mut Vec<u8>, padded: bool) -> Result<(), AllocError>
 }
 
 #[tactic(auto, using(crate::proofs::Steps::buffer_rules))]
-fn add_cells(
+fn add_column(
     padded: bool,
     out: &mut Vec<u8>,
     lengths: &mut Vec<u64>,
     dtype: &DType,
-    cells: &[Cell],
+    column: &Column,
 ) -> Result<(), AllocError>
-    requires { IsTrue (all_by (fits (ty dtype.now)) (map tree cells.now)) }
-    ensures { OnOk result (HasBuffers padded out.old.items out.new.items lengths.old.items lengths.new.items (joined_by (spelling (ty dtype.now)) (map tree cells.now) ∷ [])) }
+    requires { IsTrue (all_by (fits (ty dtype.now)) (column_cells column.now)) }
+    ensures { OnOk result (HasBuffers padded out.old.items out.new.items lengths.old.items lengths.new.items (joined_by (spelling (ty dtype.now)) (column_cells column.now) ∷ [])) }
 {
     push_padding(out, padded)?;
     let start = out.len();
-    push_cells(out, dtype, cells)?;
+    push_column(out, dtype, column)?;
     lengths.push((out.len() - start) as u64)?;
     Ok(())
 }
@@ -118,7 +121,7 @@ pub(crate) fn add_own(
     ensures { OnOk result (HasBuffers padded out.old.items out.new.items lengths.old.items lengths.new.items (own_buffers chunk.now)) }
 {
     match chunk.node() {
-        Node::Plain { dtype, cells } => add_cells(padded, out, lengths, dtype, cells),
+        Node::Plain { dtype, column } => add_column(padded, out, lengths, dtype, column),
         Node::Constant { dtype, cell, .. } => add_cell(padded, out, lengths, dtype, cell),
         Node::List {
             dtype,

@@ -7,7 +7,7 @@ use base.Stored.{Gv}
 use Rattle.vx_hash.specs.XxHash3.{xxhash3_64}
 use Rattle.vx_model.specs.CellData.{CellData, int_cell, text_cell, bytes_cell}
 use Rattle.vx_model.specs.ChunkData.{cell_at}
-use Rattle.vx_chunk.specs.ChunkCode.{cells_code, cells_of, cells_back}
+use Rattle.vx_typed.specs.CellCode.{cells_code, cells_of, cells_back}
 use Rattle.vx_rules.specs.Runs.{same_cell, has_cell, place_in}
 
 abbrev pub listed_code : Coded (List CellData)

@@ -4,12 +4,14 @@
 
 ghost use Rattle.std.specs.Prelude.{◌≡◌, ◌+◌, ◌<◌, length, map, vec_len, IfOk, OnOk};
 ghost use Rattle.vx_model.specs.TreeView.{tree};
+ghost use Rattle.vx_typed.specs.Lent.{lent_cell};
 ghost use Rattle.vx_slots.specs.Slots.{AreWithin, Kept, IsFree, first_slot, looked, taken};
 
 use crate::hash::first_slot;
 use crate::same::same_cell;
 use std::alloc::{AllocError, Global};
 use vx_model::Cell;
+use vx_typed::{Lent, lend_cell};
 
 #[derive(Drop)]
 pub(crate) struct Slots {
@@ -20,9 +22,9 @@ pub(crate) struct Slots {
 
 /// The place that a walk finds in the slots from its first one on.
 #[tactic(auto, using(crate::proofs::Walks::walk_rules))]
-pub(crate) fn walk(slots: &[u64], cells: &[Cell], cell: &Cell) -> Option<u64>
+pub(crate) fn walk(slots: &[u64], cells: &[Cell], cell: Lent<'_>) -> Option<u64>
     requires { AreWithin (length cells.now) slots.now }
-    ensures { result ≡ looked (map tree cells.now) (tree cell.now) slots.now }
+    ensures { result ≡ looked (map tree cells.now) (lent_cell cell.entry) slots.now }
 {
     for slot in slots {
         if *slot == 0 {
@@ -70,7 +72,7 @@ pub(crate) fn slot_for(slots: &[u64], mask: u64, cell: &Cell) -> usize
     requires { mask + taken slots.now < length slots.now }
     ensures { IsFree (first_slot mask (tree cell.now)) slots.now result }
 {
-    empty_slot(slots, first_slot(cell, mask) as usize)
+    empty_slot(slots, first_slot(lend_cell(cell), mask) as usize)
 }
 
 /// The first empty slot from `from` on.

@@ -2,6 +2,7 @@
 
 ghost use Rattle.std.specs.Prelude.{◌≡◌, ◌++◌, ◌∷◌, [], length, map, is_some, IfSome, OnOk, OnErr};
 ghost use Rattle.vx_model.specs.TreeView.{tree};
+ghost use Rattle.vx_typed.specs.Lent.{lent_cell};
 ghost use Rattle.vx_rules.specs.Runs.{has_cell, place_in};
 
 use crate::hash::first_slot;
@@ -9,6 +10,7 @@ use crate::slots::{Slots, make_room, slot_for, walk};
 use std::alloc::{AllocError, Global};
 use std::marker::Model;
 use vx_model::Cell;
+use vx_typed::{Lent, lend_cell};
 
 /// Cells in order, with the place of each in slots by its hash. Contracts see the list of the cells.
 #[derive(Drop)]
@@ -57,6 +59,14 @@ impl CellTable {
     pub fn find(&self, cell: &Cell) -> Option<u64>
         ensures known { is_some result ≡ has_cell (tree cell.now) self.now }
         ensures place { IfSome result (λ k. k ≡ place_in (tree cell.now) self.now) }
+    {
+        self.find_lent(lend_cell(cell))
+    }
+
+    /// The same of a cell that is lent.
+    pub fn find_lent(&self, cell: Lent<'_>) -> Option<u64>
+        ensures known { is_some result ≡ has_cell (lent_cell cell.entry) self.now }
+        ensures place { IfSome result (λ k. k ≡ place_in (lent_cell cell.entry) self.now) }
     {
         let first = first_slot(cell, self.slots.mask) as usize;
         let (_, slots) = self.slots.slots.split_at(first);

@@ -12,7 +12,6 @@ use Rattle.vx_layout_spec.specs.Parts.{elements_of, all_elements}
 use Rattle.vx_layout_spec.specs.Real.{is_length, is_real_cell, are_real_cells, Whole}
 use Rattle.vx_rules.specs.Columns.{offset_type}
 use Rattle.vx_rules.proofs.CellLaws.{Fine, below, cells_fine}
-use Rattle.vx_chunk.proofs.FlagSteps.{ty_flags, bools_fit}
 use Rattle.vx_split.specs.Causes.{IsPast, Tells}
 use Rattle.vx_split.specs.declared.error.SplitError.{SplitError}
 use Rattle.vx_split.specs.declared.error.SplitError.TheVariants.{NotStruct, DuplicateField, TooLarge, OutOfMemory}
@@ -20,7 +19,7 @@ use Rattle.vx_split.specs.declared.error.SplitError.TheVariants.{NotStruct, Dupl
 pub ty_offsets : ty (dt.Primitive U64 NonNullable) ≡ offset_type
 ty_offsets = search (rules, dt.the_lemmas)
 
-pub ruleset type_rules = (ty_offsets, ty_flags, bools_fit)
+pub ruleset type_rules = (ty_offsets)
 
 -- ---- the number that is told is exact
 

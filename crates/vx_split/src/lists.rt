@@ -15,8 +15,7 @@ use crate::error::SplitError;
 use crate::offsets::{end_of, offset_cells};
 use std::alloc::{AllocError, Global};
 use std::marker::Model;
-use vx_chunk::{Chunk, ChunkError};
-use vx_chunk_cells::bool_cells;
+use vx_chunk::{Chunk, ChunkError, flag_chunk};
 use vx_model::{Cell, DType, Nullability, PType};
 
 /// Splits chunks of a list type into columns: the elements of all rows, those of invalid rows too; the offsets, which
@@ -114,7 +113,7 @@ fn split_lists(
                 drop(elements);
                 return Err(SplitError::OutOfMemory);
             };
-            let columns = put_together(alloc, nullable, elements, places, &valid)?;
+            let columns = put_together(alloc, nullable, elements, places, valid)?;
             Ok((columns, end))
         }
         Err(error) => {
@@ -151,36 +150,31 @@ fn put_together(
     nullable: bool,
     elements: Chunk,
     places: Vec<Cell>,
-    valid: &[bool],
+    valid: Vec<bool>,
 ) -> Result<Vec<Chunk>, AllocError>
     requires { IsTrue (all_by (fits offset_type) (map tree places.items)) }
-    ensures { IfOk result (λ v. v.items ≡ elements ∷ plain_piece offset_type (map tree places.items) ∷ (if nullable then plain_piece (boolean false) (map bool_cell valid.now) ∷ [] else [])) }
+    ensures { IfOk result (λ v. v.items ≡ elements ∷ plain_piece offset_type (map tree places.items) ∷ (if nullable then plain_piece (boolean false) (map bool_cell valid.items) ∷ [] else [])) }
 {
-    if !nullable {
-        return Ok(vec![in alloc; elements, offset_column(places)]?);
-    }
-    let Ok(validity) = validity_column(alloc, valid) else {
+    let Ok(offsets) = offset_column(alloc, places) else {
         drop(elements);
         return Err(AllocError);
     };
-    Ok(vec![in alloc; elements, offset_column(places), validity]?)
+    if !nullable {
+        return Ok(vec![in alloc; elements, offsets]?);
+    }
+    let Ok(validity) = flag_chunk(alloc, valid) else {
+        drop(elements);
+        drop(offsets);
+        return Err(AllocError);
+    };
+    Ok(vec![in alloc; elements, offsets, validity]?)
 }
 
 #[tactic(auto, using(crate::proofs::ListSteps::type_rules))]
-fn offset_column(places: Vec<Cell>) -> Chunk
+fn offset_column(alloc: Global, places: Vec<Cell>) -> Result<Chunk, AllocError>
     requires { IsTrue (all_by (fits offset_type) (map tree places.items)) }
-    ensures { result ≡ plain_piece offset_type (map tree places.items) }
+    ensures { IfOk result (λ c. c ≡ plain_piece offset_type (map tree places.items)) }
 {
-    Chunk::plain(
-        DType::Primitive(PType::U64, Nullability::NonNullable),
-        places,
-    )
-}
-
-#[tactic(auto, using(crate::proofs::ListSteps::type_rules))]
-fn validity_column(alloc: Global, valid: &[bool]) -> Result<Chunk, AllocError>
-    ensures { IfOk result (λ c. c ≡ plain_piece (boolean false) (map bool_cell valid.now)) }
-{
-    let flags = bool_cells(alloc, valid)?;
-    Ok(Chunk::plain(DType::Bool(Nullability::NonNullable), flags))
+    let dtype = DType::Primitive(PType::U64, Nullability::NonNullable);
+    Chunk::typed(alloc, dtype, places)
 }

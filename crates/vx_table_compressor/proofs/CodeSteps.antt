@@ -5,7 +5,7 @@ use Rattle.std.proofs.lemmas.List.{append-nil, drop_more, drop_all, map-append}
 use Rattle.std.proofs.lemmas.Bool.{and_from, and_parts}
 use Rattle.vx_model.specs.Words.{all_by}
 use Rattle.vx_model.specs.Ty.{Ty, primitive}
-use Rattle.vx_model.specs.CellData.{CellData, fits}
+use Rattle.vx_model.specs.CellData.{CellData, null_cell, fits}
 use Rattle.vx_model.specs.ChunkData.{is_dict_type, is_code_type, plain_piece}
 use Rattle.vx_model.specs.declared.cell.Cell.{Cell}
 use Rattle.vx_model.specs.TreeView.{tree}
@@ -65,55 +65,55 @@ longer ds (c ∷ cs) =
 
 -- ---- the cells from a place on
 
-all_at : (f : CellData → Bool) (cells : List Cell) (i : ℕ) (x : Cell) → i < length cells → x ≡ get_or cells i x → all_by f (map tree cells) ≡ true → f (tree x) ≡ true
+all_at : (f : CellData → Bool) (cs : List CellData) (i : ℕ) (x : CellData) → i < length cs → x ≡ get_or cs i null_cell → all_by f cs ≡ true → f x ≡ true
 all_at f [] i x l e h = absurd (omega arith)
-all_at f (c ∷ cs) zero x l e h = ap (λ (z : Cell). f (tree z)) e ∙ (and_parts (f (tree c)) _ h).0
-all_at f (c ∷ cs) (suc i) x l e h = all_at f cs i x (omega arith) e (and_parts (f (tree c)) _ h).1
+all_at f (c ∷ cs) zero x l e h = ap f e ∙ (and_parts (f c) _ h).0
+all_at f (c ∷ cs) (suc i) x l e h = all_at f cs i x (omega arith) e (and_parts (f c) _ h).1
 
-pub plain_at : (cells : List Cell) (i : ℕ) (x : Cell) → i < length cells → x ≡ get_or cells i x → all_by is_plain (map tree cells) ≡ true → is_plain (tree x) ≡ true
-plain_at cells i x l e h = all_at is_plain cells i x l e h
+pub plain_at : (cs : List CellData) (i : ℕ) (x : CellData) → i < length cs → x ≡ get_or cs i null_cell → all_by is_plain cs ≡ true → is_plain x ≡ true
+plain_at cs i x l e h = all_at is_plain cs i x l e h
 
-next_row : (cells : List Cell) (i : ℕ) (x : Cell) → i < length cells → x ≡ get_or cells i x → map tree (drop i cells) ≡ tree x ∷ map tree (drop (i + 1) cells)
-next_row cells i x l e = rw (drop_more cells i x l, ← e) refl
+next_row : (cs : List CellData) (i : ℕ) (x : CellData) → i < length cs → x ≡ get_or cs i null_cell → drop i cs ≡ x ∷ drop (i + 1) cs
+next_row cs i x l e = drop_more cs i null_cell l ∙ ap (λ (d : CellData). d ∷ drop (i + 1) cs) (sym e)
 
 -- the values once all rows are looked at
-pub values_more : (cells : List Cell) (i : ℕ) (x : Cell) (ds es all : List CellData) → i < length cells → x ≡ get_or cells i x → es ≡ with_cell ds (tree x) → distinct_from ds (map tree (drop i cells)) ≡ all
-    → distinct_from es (map tree (drop (i + 1) cells)) ≡ all
-values_more cells i x ds es all l e w h = ap (λ (z : List CellData). distinct_from z (map tree (drop (i + 1) cells))) w ∙ ap (distinct_from ds) (sym (next_row cells i x l e)) ∙ h
+pub values_more : (cs : List CellData) (i : ℕ) (x : CellData) (ds es all : List CellData) → i < length cs → x ≡ get_or cs i null_cell → es ≡ with_cell ds x → distinct_from ds (drop i cs) ≡ all
+    → distinct_from es (drop (i + 1) cs) ≡ all
+values_more cs i x ds es all l e w h = ap (λ (z : List CellData). distinct_from z (drop (i + 1) cs)) w ∙ ap (distinct_from ds) (sym (next_row cs i x l e)) ∙ h
 
 -- the codes, with those of the rows still to come
-pub codes_more : (cells : List Cell) (i : ℕ) (x code : Cell) (ds es all : List CellData) (codes now : List Cell) (k : ℕ) (target : List CellData) → i < length cells → x ≡ get_or cells i x → is_plain (tree x) ≡ true
-    → es ≡ with_cell ds (tree x) → distinct_from ds (map tree (drop i cells)) ≡ all → k ≡ place_in (tree x) es → tree code ≡ offset_cell k → now ≡ codes ++ code ∷ []
-    → map tree codes ++ map offset_cell (codes_of all (map tree (drop i cells))) ≡ target → map tree now ++ map offset_cell (codes_of all (map tree (drop (i + 1) cells))) ≡ target
-codes_more cells i x code ds es all codes now k target l e s w d p is n h =
-    let has : has_cell (tree x) es ≡ true = subst (λ (z : List CellData). has_cell (tree x) z ≡ true) (sym w) (has_itself (tree x) ds s) in
-    let final : distinct_from es (map tree (drop (i + 1) cells)) ≡ all = values_more cells i x ds es all l e w d in
-    let place : place_in (tree x) all ≡ place_in (tree x) es = ap (place_in (tree x)) (sym final) ∙ place_stays (tree x) es (map tree (drop (i + 1) cells)) has in
-    let cell : tree code ≡ offset_cell (place_in (tree x) all) = is ∙ ap offset_cell (p ∙ sym place) in
-    ap (λ (z : List Cell). map tree z ++ map offset_cell (codes_of all (map tree (drop (i + 1) cells)))) n
-    ∙ ap (λ (z : List CellData). z ++ map offset_cell (codes_of all (map tree (drop (i + 1) cells)))) (map-append tree codes (code ∷ []))
-    ∙ append_assoc (map tree codes) (tree code ∷ []) (map offset_cell (codes_of all (map tree (drop (i + 1) cells))))
-    ∙ ap (λ (z : CellData). map tree codes ++ (z ∷ map offset_cell (codes_of all (map tree (drop (i + 1) cells))))) cell
-    ∙ ap (λ (z : List CellData). map tree codes ++ map offset_cell (codes_of all z)) (sym (next_row cells i x l e))
+pub codes_more : (cs : List CellData) (i : ℕ) (x : CellData) (code : Cell) (ds es all : List CellData) (codes now : List Cell) (k : ℕ) (target : List CellData) → i < length cs → x ≡ get_or cs i null_cell → is_plain x ≡ true
+    → es ≡ with_cell ds x → distinct_from ds (drop i cs) ≡ all → k ≡ place_in x es → tree code ≡ offset_cell k → now ≡ codes ++ code ∷ []
+    → map tree codes ++ map offset_cell (codes_of all (drop i cs)) ≡ target → map tree now ++ map offset_cell (codes_of all (drop (i + 1) cs)) ≡ target
+codes_more cs i x code ds es all codes now k target l e s w d p is n h =
+    let has : has_cell x es ≡ true = subst (λ (z : List CellData). has_cell x z ≡ true) (sym w) (has_itself x ds s) in
+    let final : distinct_from es (drop (i + 1) cs) ≡ all = values_more cs i x ds es all l e w d in
+    let place : place_in x all ≡ place_in x es = ap (place_in x) (sym final) ∙ place_stays x es (drop (i + 1) cs) has in
+    let cell : tree code ≡ offset_cell (place_in x all) = is ∙ ap offset_cell (p ∙ sym place) in
+    ap (λ (z : List Cell). map tree z ++ map offset_cell (codes_of all (drop (i + 1) cs))) n
+    ∙ ap (λ (z : List CellData). z ++ map offset_cell (codes_of all (drop (i + 1) cs))) (map-append tree codes (code ∷ []))
+    ∙ append_assoc (map tree codes) (tree code ∷ []) (map offset_cell (codes_of all (drop (i + 1) cs)))
+    ∙ ap (λ (z : CellData). map tree codes ++ (z ∷ map offset_cell (codes_of all (drop (i + 1) cs)))) cell
+    ∙ ap (λ (z : List CellData). map tree codes ++ map offset_cell (codes_of all z)) (sym (next_row cs i x l e))
     ∙ h
 
 -- more values than at most so many
-pub too_many : (cells : List Cell) (i : ℕ) (x : Cell) (ds es all : List CellData) (most n : ℕ) → i < length cells → x ≡ get_or cells i x → es ≡ with_cell ds (tree x) → distinct_from ds (map tree (drop i cells)) ≡ all
+pub too_many : (cs : List CellData) (i : ℕ) (x : CellData) (ds es all : List CellData) (most n : ℕ) → i < length cs → x ≡ get_or cs i null_cell → es ≡ with_cell ds x → distinct_from ds (drop i cs) ≡ all
     → n ≡ length es → most < n → most < length all
-too_many cells i x ds es all most n l e w d is m =
-    let final : distinct_from es (map tree (drop (i + 1) cells)) ≡ all = values_more cells i x ds es all l e w d in
-    let long : length es ≤ length (distinct_from es (map tree (drop (i + 1) cells))) = longer es (map tree (drop (i + 1) cells)) in
-    let same : length (distinct_from es (map tree (drop (i + 1) cells))) ≡ length all = ap length final in
+too_many cs i x ds es all most n l e w d is m =
+    let final : distinct_from es (drop (i + 1) cs) ≡ all = values_more cs i x ds es all l e w d in
+    let long : length es ≤ length (distinct_from es (drop (i + 1) cs)) = longer es (drop (i + 1) cs) in
+    let same : length (distinct_from es (drop (i + 1) cs)) ≡ length all = ap length final in
     omega arith
 
 -- no row is left
-pub values_end : (cells : List Cell) (i : ℕ) (ds all : List CellData) → length cells ≤ i → distinct_from ds (map tree (drop i cells)) ≡ all → ds ≡ all
-values_end cells i ds all l h = ap (λ (z : List Cell). distinct_from ds (map tree z)) (sym (drop_all i cells l)) ∙ h
+pub values_end : (cs : List CellData) (i : ℕ) (ds all : List CellData) → length cs ≤ i → distinct_from ds (drop i cs) ≡ all → ds ≡ all
+values_end cs i ds all l h = ap (λ (z : List CellData). distinct_from ds z) (sym (drop_all i cs l)) ∙ h
 
-pub codes_end : (cells : List Cell) (i : ℕ) (all : List CellData) (codes : List Cell) (target : List CellData) → length cells ≤ i → map tree codes ++ map offset_cell (codes_of all (map tree (drop i cells))) ≡ target
+pub codes_end : (cs : List CellData) (i : ℕ) (all : List CellData) (codes : List Cell) (target : List CellData) → length cs ≤ i → map tree codes ++ map offset_cell (codes_of all (drop i cs)) ≡ target
     → map tree codes ≡ target
-codes_end cells i all codes target l h =
-    sym (append-nil (map tree codes)) ∙ ap (λ (z : List Cell). map tree codes ++ map offset_cell (codes_of all (map tree z))) (sym (drop_all i cells l)) ∙ h
+codes_end cs i all codes target l h =
+    sym (append-nil (map tree codes)) ∙ ap (λ (z : List CellData). map tree codes ++ map offset_cell (codes_of all z)) (sym (drop_all i cs l)) ∙ h
 
 pub ruleset code_rules = (plain_at, values_more, codes_more, too_many, values_end, codes_end)
 

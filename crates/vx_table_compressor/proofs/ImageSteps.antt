@@ -87,19 +87,19 @@ pub ruleset chunk_rules = (image_is, own_constant)
 
 -- ---- a constant, or few values
 
-pub chosen_alike : (t : Ty) (cells : List Cell) (first x : Cell) (n : ℕ) → are_alike (map tree cells) ≡ true → first ≡ get_or cells 0 first → tree x ≡ tree first → n ≡ length cells → constant_piece t (tree x) n ≡ chosen_image t (map tree cells)
-chosen_alike t [] first x n h e w l = cc
-chosen_alike t (c ∷ cs) first x n h e w l =
-    ap₂ (constant_piece t) (w ∙ ap tree e) (l ∙ ap suc (sym (length-map cs tree)))
-    ∙ ap (λ (b : Bool). if b then constant_piece t (tree c) (length (map tree (c ∷ cs))) else small_image t (map tree (c ∷ cs))) (sym h)
+pub chosen_alike : (t : Ty) (cs : List CellData) (x : CellData) (n : ℕ) → are_alike cs ≡ true → x ≡ get_or cs 0 null_cell → n ≡ length cs → constant_piece t x n ≡ chosen_image t cs
+chosen_alike t [] x n h e l = cc
+chosen_alike t (c ∷ cs) x n h e l =
+    ap₂ (constant_piece t) e l
+    ∙ ap (λ (b : Bool). if b then constant_piece t c (length (c ∷ cs)) else small_image t (c ∷ cs)) (sym h)
 
-pub alike_some : (cells : List Cell) → are_alike (map tree cells) ≡ true → 0 < length cells
+pub alike_some : (cs : List CellData) → are_alike cs ≡ true → 0 < length cs
 alike_some [] h = cc
 alike_some (c ∷ cs) h = omega arith
 
-pub first_fits : (t : Ty) (cells : List Cell) (first x : Cell) → are_alike (map tree cells) ≡ true → first ≡ get_or cells 0 first → tree x ≡ tree first → all_by (fits t) (map tree cells) ≡ true → fits t (tree x) ≡ true
-first_fits t [] first x h e w f = cc
-first_fits t (c ∷ cs) first x h e w f = ap (fits t) (w ∙ ap tree e) ∙ (and_parts (fits t (tree c)) _ f).0
+pub first_fits : (t : Ty) (cs : List CellData) (x : CellData) → are_alike cs ≡ true → x ≡ get_or cs 0 null_cell → all_by (fits t) cs ≡ true → fits t x ≡ true
+first_fits t [] x h e f = cc
+first_fits t (c ∷ cs) x h e f = ap (fits t) e ∙ (and_parts (fits t c) _ f).0
 
 pub chosen_small : (t : Ty) (cs : List CellData) → are_alike cs ≡ false → small_image t cs ≡ chosen_image t cs
 chosen_small t [] h = refl

@@ -1,13 +1,11 @@
 -- Cells that are the same, one by one.
 use Rattle.std.proofs.Common.{◌≡◌, ℕ, suc, ◌+◌, ◌<◌, ◌≤◌, ◌&&◌, Bool, true, false, List, [], ◌∷◌, map, length, drop, get_or, refl, ap, ◌∙◌, sym, arith}
-use Rattle.std.specs.Prelude.{◌==◌}
-use Rattle.std.proofs.lemmas.Bool.{true≢false}
 use Rattle.std.proofs.lemmas.List.{drop_more, drop_all, length-map}
 use Rattle.vx_model.specs.Words.{all_by}
-use Rattle.vx_model.specs.CellData.{CellData, trees_of}
+use Rattle.vx_model.specs.CellData.{CellData, null_cell, trees_of}
 use Rattle.vx_model.specs.declared.cell.Cell.{Cell}
 use Rattle.vx_model.specs.TreeView.{tree}
-use Rattle.vx_model.proofs.CellViews.{tree_list, tree_struct, drop_all_by}
+use Rattle.vx_model.proofs.CellViews.{tree_list, tree_struct}
 use Rattle.vx_compressor_spec.specs.TableImage.{tree_eq, trees_eq}
 use Rattle.vx_table_compressor.specs.Images.{are_alike}
 
@@ -30,22 +28,15 @@ other_lengths (c ∷ cs) (d ∷ ds) h = rw (other_lengths cs ds (λ e. h (ap suc
 pub ruleset same_rules = (drop_trees, other_lengths, length-map, drop_all, tree_list, tree_struct)
 
 -- the first cell and the others
-pub alike_first : (cells : List Cell) (first : Cell) → 0 < length cells → first ≡ get_or cells 0 first → are_alike (map tree cells) ≡ all_by (tree_eq (tree first)) (map tree (drop 1 cells))
+pub alike_first : (cs : List CellData) (first : CellData) → 0 < length cs → first ≡ get_or cs 0 null_cell → all_by (tree_eq first) (drop 1 cs) ≡ are_alike cs
 alike_first [] first l e = absurd (omega arith)
-alike_first (c ∷ cs) first l e = ap (λ (x : Cell). all_by (tree_eq (tree x)) (map tree cs)) (sym e)
+alike_first (c ∷ cs) first l e = ap (λ (x : CellData). all_by (tree_eq x) cs) e
 
-pub alike_none : (cells : List Cell) → length cells ≡ 0 → are_alike (map tree cells) ≡ false
+pub alike_none : (cs : List CellData) → length cs ≡ 0 → are_alike cs ≡ false
 alike_none [] e = refl
 alike_none (c ∷ cs) e = absurd (omega arith)
 
-pub not_empty : (cells : List Cell) (b : Bool) → b ≡ (length cells == 0) → b ≡ false → 0 < length cells
-not_empty [] b e f = absurd (true≢false (sym e ∙ f))
-not_empty (c ∷ cs) b e f = omega arith
+pub alike_next : (first : CellData) (cs : List CellData) (i : ℕ) (c : CellData) → i < length cs → c ≡ get_or cs i null_cell → all_by (tree_eq first) (drop i cs) ≡ (tree_eq first c && all_by (tree_eq first) (drop (i + 1) cs))
+alike_next first cs i c lt is = ap (all_by (tree_eq first)) (drop_more cs i null_cell lt) ∙ ap (λ (d : CellData). tree_eq first d && all_by (tree_eq first) (drop (i + 1) cs)) (sym is)
 
--- all are looked at
-pub alike_end : (cells : List Cell) (k : ℕ) → 0 < length cells → length cells ≤ k
-    → ((first : Cell) → first ≡ get_or cells 0 first → all_by (tree_eq (tree first)) (map tree (drop k cells)) ≡ are_alike (map tree cells)) → true ≡ are_alike (map tree cells)
-alike_end [] k l m h = absurd (omega arith)
-alike_end (c ∷ cs) k l m h = ap (λ (z : List Cell). all_by (tree_eq (tree c)) (map tree z)) (sym (drop_all k (c ∷ cs) m)) ∙ h c refl
-
-pub ruleset alike_rules = (alike_first, alike_none, drop_all_by, drop_all)
+pub ruleset alike_rules = (alike_first, alike_none, alike_next, drop_all)

@@ -49,7 +49,7 @@ impl CompressorPlugin for TableCompressor {
 
     ghost keeps = { λ _ which p whole. images_keep_rows which p whole };
 
-    /// Takes time by the rows, of a chunk that is a constant and stays one that of a copy. Rows that are held as cells
+    /// Takes time by the rows, of a chunk that is a constant and stays one that of a copy. Rows that are held as a column
     /// are looked at where they are, others are copied first; of a dictionary's the distinct ones alone are copied.
     fn compress_chunk(&mut self, which: u32, chunk: &Chunk) -> Result<Chunk, CompressError> {
         if self.fails.call() {

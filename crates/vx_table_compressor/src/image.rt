@@ -6,6 +6,7 @@ ghost use Rattle.vx_model.specs.CellData.{fits};
 ghost use Rattle.vx_model.specs.ChunkData.{plain_piece, cells as cells_in};
 ghost use Rattle.vx_model.specs.TyView.{ty};
 ghost use Rattle.vx_model.specs.TreeView.{tree};
+ghost use Rattle.vx_column.specs.ColumnView.{column_cells};
 ghost use Rattle.vx_compressor_spec.specs.TableImage.{table_image, chosen_image, small_image, coded_image};
 ghost use Rattle.vx_table_compressor.specs.Images.{image_of, constant_rows};
 
@@ -13,8 +14,10 @@ use crate::dictionary::dictionary;
 use crate::same::are_alike;
 use std::alloc::{AllocError, Global};
 use vx_chunk::Chunk;
-use vx_chunk_cells::{copy_cells, is_dict_type};
+use vx_chunk_cells::is_dict_type;
+use vx_column::Column;
 use vx_model::{Cell, DType, EncodingId};
+use vx_typed::own_cell;
 
 /// The chunk's image under the number.
 #[tactic(auto, using(crate::proofs::ImageSteps::chunk_rules))]
@@ -25,8 +28,8 @@ pub(crate) fn image(alloc: Global, which: u32, chunk: &Chunk) -> Result<Chunk, A
     if which == 1 && is_constant(chunk) {
         return Ok(chunk.clone()?);
     }
-    match chunk.as_cells() {
-        Some(cells) => lent_image(alloc, which, chunk.dtype(), cells),
+    match chunk.as_column() {
+        Some(column) => lent_image(alloc, which, chunk.dtype(), column),
         None => own_image(alloc, which, chunk.dtype(), cells_of(alloc, chunk)?),
     }
 }
@@ -52,18 +55,23 @@ fn cells_of(alloc: Global, chunk: &Chunk) -> Result<Vec<Cell>, AllocError>
     }
 }
 
-/// The image of rows that their owner keeps: where it is the plain chunk they are copied.
-fn lent_image(alloc: Global, which: u32, dtype: &DType, cells: &[Cell]) -> Result<Chunk, AllocError>
-    requires { IsTrue (all_by (fits (ty dtype.now)) (map tree cells.now)) }
-    ensures { IfOk result (λ c. c ≡ image_of which (ty dtype.now) (map tree cells.now)) }
+/// The image of rows that their owner keeps: where it is the plain chunk, typed values are shared and cells copied.
+fn lent_image(
+    alloc: Global,
+    which: u32,
+    dtype: &DType,
+    column: &Column,
+) -> Result<Chunk, AllocError>
+    requires { IsTrue (all_by (fits (ty dtype.now)) (column_cells column.now)) }
+    ensures { IfOk result (λ c. c ≡ image_of which (ty dtype.now) (column_cells column.now)) }
 {
-    if let Some(image) = packed(alloc, which, dtype, cells)? {
+    if let Some(image) = packed(alloc, which, dtype, column)? {
         return Ok(image);
     }
-    Ok(Chunk::plain(dtype.clone()?, copy_cells(alloc, cells)?))
+    Ok(Chunk::column(dtype.clone()?, column.clone()?))
 }
 
-/// The image of rows: where it is the plain chunk they are moved.
+/// The image of rows: where it is the plain chunk, they are moved or made typed values.
 fn own_image(
     alloc: Global,
     which: u32,
@@ -73,10 +81,11 @@ fn own_image(
     requires { IsTrue (all_by (fits (ty dtype.now)) (map tree cells.items)) }
     ensures { IfOk result (λ c. c ≡ image_of which (ty dtype.now) (map tree cells.items)) }
 {
-    if let Some(image) = packed(alloc, which, dtype, &cells)? {
+    let column = Column::from_cells(alloc, dtype, cells)?;
+    if let Some(image) = packed(alloc, which, dtype, &column)? {
         return Ok(image);
     }
-    Ok(Chunk::plain(dtype.clone()?, cells))
+    Ok(Chunk::column(dtype.clone()?, column))
 }
 
 /// The image of rows, and nothing where it is the plain chunk.
@@ -84,54 +93,54 @@ fn packed(
     alloc: Global,
     which: u32,
     dtype: &DType,
-    cells: &[Cell],
+    column: &Column,
 ) -> Result<Option<Chunk>, AllocError>
-    requires { IsTrue (all_by (fits (ty dtype.now)) (map tree cells.now)) }
-    ensures { IfOk result (λ r. MatchOption r (image_of which (ty dtype.now) (map tree cells.now) ≡ plain_piece (ty dtype.now) (map tree cells.now)) (λ c. c ≡ image_of which (ty dtype.now) (map tree cells.now))) }
+    requires { IsTrue (all_by (fits (ty dtype.now)) (column_cells column.now)) }
+    ensures { IfOk result (λ r. MatchOption r (image_of which (ty dtype.now) (column_cells column.now) ≡ plain_piece (ty dtype.now) (column_cells column.now)) (λ c. c ≡ image_of which (ty dtype.now) (column_cells column.now))) }
 {
     if which == 1 {
-        return chosen(alloc, dtype, cells);
+        return chosen(alloc, dtype, column);
     }
     if which == 2 {
-        return coded(alloc, dtype, cells);
+        return coded(alloc, dtype, column);
     }
     Ok(None)
 }
 
 /// A constant where there is a row and all cells are the same, else a dictionary of few values.
 #[tactic(auto, using(crate::proofs::ImageSteps::chosen_rules))]
-fn chosen(alloc: Global, dtype: &DType, cells: &[Cell]) -> Result<Option<Chunk>, AllocError>
-    requires { IsTrue (all_by (fits (ty dtype.now)) (map tree cells.now)) }
-    ensures { IfOk result (λ r. MatchOption r (chosen_image (ty dtype.now) (map tree cells.now) ≡ plain_piece (ty dtype.now) (map tree cells.now)) (λ c. c ≡ chosen_image (ty dtype.now) (map tree cells.now))) }
+fn chosen(alloc: Global, dtype: &DType, column: &Column) -> Result<Option<Chunk>, AllocError>
+    requires { IsTrue (all_by (fits (ty dtype.now)) (column_cells column.now)) }
+    ensures { IfOk result (λ r. MatchOption r (chosen_image (ty dtype.now) (column_cells column.now) ≡ plain_piece (ty dtype.now) (column_cells column.now)) (λ c. c ≡ chosen_image (ty dtype.now) (column_cells column.now))) }
 {
-    if !are_alike(cells) {
-        return small(alloc, dtype, cells);
+    if !are_alike(column) {
+        return small(alloc, dtype, column);
     }
-    let cell = cells[0].clone()?;
-    let rows = cells.len() as u64;
+    let cell = own_cell(alloc, column.row(0))?;
+    let rows = column.len() as u64;
     Ok(Some(Chunk::constant(dtype.clone()?, cell, rows)))
 }
 
 /// A dictionary where the type has one and at most half of the cells are distinct.
 #[tactic(auto, using(crate::proofs::ImageSteps::small_rules))]
-fn small(alloc: Global, dtype: &DType, cells: &[Cell]) -> Result<Option<Chunk>, AllocError>
-    requires { IsTrue (all_by (fits (ty dtype.now)) (map tree cells.now)) }
-    ensures { IfOk result (λ r. MatchOption r (small_image (ty dtype.now) (map tree cells.now) ≡ plain_piece (ty dtype.now) (map tree cells.now)) (λ c. c ≡ small_image (ty dtype.now) (map tree cells.now))) }
+fn small(alloc: Global, dtype: &DType, column: &Column) -> Result<Option<Chunk>, AllocError>
+    requires { IsTrue (all_by (fits (ty dtype.now)) (column_cells column.now)) }
+    ensures { IfOk result (λ r. MatchOption r (small_image (ty dtype.now) (column_cells column.now) ≡ plain_piece (ty dtype.now) (column_cells column.now)) (λ c. c ≡ small_image (ty dtype.now) (column_cells column.now))) }
 {
     if !is_dict_type(dtype) {
         return Ok(None);
     }
-    dictionary(alloc, dtype, cells, cells.len() as u64 / 2)
+    dictionary(alloc, dtype, column, column.len() as u64 / 2)
 }
 
 /// A dictionary where the type has one.
 #[tactic(auto, using(crate::proofs::ImageSteps::coded_rules))]
-fn coded(alloc: Global, dtype: &DType, cells: &[Cell]) -> Result<Option<Chunk>, AllocError>
-    requires { IsTrue (all_by (fits (ty dtype.now)) (map tree cells.now)) }
-    ensures { IfOk result (λ r. MatchOption r (coded_image (ty dtype.now) (map tree cells.now) ≡ plain_piece (ty dtype.now) (map tree cells.now)) (λ c. c ≡ coded_image (ty dtype.now) (map tree cells.now))) }
+fn coded(alloc: Global, dtype: &DType, column: &Column) -> Result<Option<Chunk>, AllocError>
+    requires { IsTrue (all_by (fits (ty dtype.now)) (column_cells column.now)) }
+    ensures { IfOk result (λ r. MatchOption r (coded_image (ty dtype.now) (column_cells column.now) ≡ plain_piece (ty dtype.now) (column_cells column.now)) (λ c. c ≡ coded_image (ty dtype.now) (column_cells column.now))) }
 {
     if !is_dict_type(dtype) {
         return Ok(None);
     }
-    dictionary(alloc, dtype, cells, cells.len() as u64)
+    dictionary(alloc, dtype, column, column.len() as u64)
 }

@@ -1,3 +1,3 @@
 pub mod Steps
-pub mod StringSteps
 pub mod Shares
+pub mod Joins

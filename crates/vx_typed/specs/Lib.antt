@@ -1,3 +1,3 @@
 pub mod CellCode
 pub mod Typed
-pub mod StringCells
+pub mod Lent

@@ -6,7 +6,9 @@ ghost use Rattle.vx_model.specs.Ty.{Ty, boolean, primitive};
 ghost use Rattle.vx_model.specs.CellData.{CellData, null_cell, bool_cell, int_cell, fits, flag_bytes, spelling};
 ghost use Rattle.vx_model.specs.TreeView.{tree};
 ghost use Rattle.vx_typed.specs.Typed.{is_leaf};
+ghost use Rattle.vx_typed.specs.Lent.{lent_cell};
 
+use crate::lent::Lent;
 use std::alloc::AllocError;
 use vx_model::Cell;
 
@@ -28,6 +30,10 @@ pub trait Leaf: Copy {
 
     fn to_cell(self) -> Cell
         ensures { tree result ≡ as_cell self };
+
+    /// Its cell, which borrows nothing.
+    fn lend<'a>(self) -> Lent<'a>
+        ensures { lent_cell result ≡ as_cell self };
 
     /// What is in the cell, with whether it is valid; `None` where the type has no such cell, null or not.
     fn read(c: &Cell) -> Option<(bool, Self)>
@@ -63,6 +69,10 @@ impl Leaf for bool {
         Cell::Bool(self)
     }
 
+    fn lend<'a>(self) -> Lent<'a> {
+        Lent::Bool(self)
+    }
+
     fn read(c: &Cell) -> Option<(bool, bool)> {
         match c {
             Cell::Null => Some((false, false)),
@@ -92,6 +102,10 @@ impl Leaf for u8 {
 
     fn to_cell(self) -> Cell {
         Cell::Int(i128::from(self))
+    }
+
+    fn lend<'a>(self) -> Lent<'a> {
+        Lent::Int(i128::from(self))
     }
 
     fn read(c: &Cell) -> Option<(bool, u8)> {
@@ -125,6 +139,10 @@ impl Leaf for u16 {
         Cell::Int(i128::from(self))
     }
 
+    fn lend<'a>(self) -> Lent<'a> {
+        Lent::Int(i128::from(self))
+    }
+
     fn read(c: &Cell) -> Option<(bool, u16)> {
         match c {
             Cell::Null => Some((false, 0)),
@@ -154,6 +172,10 @@ impl Leaf for u32 {
 
     fn to_cell(self) -> Cell {
         Cell::Int(i128::from(self))
+    }
+
+    fn lend<'a>(self) -> Lent<'a> {
+        Lent::Int(i128::from(self))
     }
 
     fn read(c: &Cell) -> Option<(bool, u32)> {
@@ -187,6 +209,10 @@ impl Leaf for u64 {
         Cell::Int(i128::from(self))
     }
 
+    fn lend<'a>(self) -> Lent<'a> {
+        Lent::Int(i128::from(self))
+    }
+
     fn read(c: &Cell) -> Option<(bool, u64)> {
         match c {
             Cell::Null => Some((false, 0)),
@@ -216,6 +242,10 @@ impl Leaf for i8 {
 
     fn to_cell(self) -> Cell {
         Cell::Int(i128::from(self))
+    }
+
+    fn lend<'a>(self) -> Lent<'a> {
+        Lent::Int(i128::from(self))
     }
 
     fn read(c: &Cell) -> Option<(bool, i8)> {
@@ -249,6 +279,10 @@ impl Leaf for i16 {
         Cell::Int(i128::from(self))
     }
 
+    fn lend<'a>(self) -> Lent<'a> {
+        Lent::Int(i128::from(self))
+    }
+
     fn read(c: &Cell) -> Option<(bool, i16)> {
         match c {
             Cell::Null => Some((false, 0)),
@@ -280,6 +314,10 @@ impl Leaf for i32 {
         Cell::Int(i128::from(self))
     }
 
+    fn lend<'a>(self) -> Lent<'a> {
+        Lent::Int(i128::from(self))
+    }
+
     fn read(c: &Cell) -> Option<(bool, i32)> {
         match c {
             Cell::Null => Some((false, 0)),
@@ -309,6 +347,10 @@ impl Leaf for i64 {
 
     fn to_cell(self) -> Cell {
         Cell::Int(i128::from(self))
+    }
+
+    fn lend<'a>(self) -> Lent<'a> {
+        Lent::Int(i128::from(self))
     }
 
     fn read(c: &Cell) -> Option<(bool, i64)> {

@@ -5,10 +5,12 @@ ghost use Rattle.vx_model.specs.Words.{joined_by, all_by};
 ghost use Rattle.vx_model.specs.CellData.{spelling, fits, null_cell};
 ghost use Rattle.vx_model.specs.TreeView.{tree};
 ghost use Rattle.vx_typed.specs.Typed.{typed_cells, is_leaf};
+ghost use Rattle.vx_typed.specs.Lent.{lent_cell};
 
-use crate::flags::Flags;
+use crate::flags::{Flags, needed};
 use crate::leaf::Leaf;
-use crate::read::{are_leaves, cell_at, push_cells, values_in};
+use crate::lent::Lent;
+use crate::read::{are_leaves, cell_at, lent_at, push_cells, values_in};
 use crate::shared::Shared;
 use crate::written::{push_masked, push_valid};
 use std::alloc::{AllocError, Global};
@@ -48,8 +50,9 @@ impl<T: Leaf> Leaves<T> {
         })
     }
 
-    /// These values, of which those are invalid whose flags are false. Both vectors are moved.
-    #[tactic(auto, using(crate::proofs::Steps::model_rules))]
+    /// These values, of which those are invalid whose flags are false. The values are moved, and the flags where one is
+    /// false.
+    #[tactic(auto, using(crate::proofs::Joins::made_rules))]
     pub fn with_flags(
         alloc: Global,
         items: Vec<T>,
@@ -58,7 +61,7 @@ impl<T: Leaf> Leaves<T> {
         ensures { IfOk result (λ c. c ≡ typed_cells T.as_cell items.items flags.items) }
     {
         let items = Shared::new(alloc, items)?;
-        let valid = Flags::new(alloc, flags)?;
+        let valid = Flags::new(alloc, needed(flags))?;
         Ok(Leaves { items, valid })
     }
 
@@ -98,6 +101,15 @@ impl<T: Leaf> Leaves<T> {
         cell_at(self.items.as_slice(), self.valid.as_slice(), row)
     }
 
+    /// The cell of a row, lent; it borrows nothing.
+    #[tactic(auto, using(crate::proofs::Steps::model_rules))]
+    pub fn row(&self, row: usize) -> Lent<'_>
+        requires { row < length self.now }
+        ensures { lent_cell result ≡ slice_index_or self.now row null_cell }
+    {
+        lent_at(self.items.as_slice(), self.valid.as_slice(), row)
+    }
+
     /// Rows `from` to `to`, the last not included, in the same memory.
     #[tactic(auto, using(crate::proofs::Steps::model_rules))]
     pub fn slice(&self, from: usize, to: usize) -> Result<Leaves<T>, AllocError>
@@ -107,6 +119,19 @@ impl<T: Leaf> Leaves<T> {
     {
         let items = self.items.slice(from, to)?;
         let valid = self.valid.slice(from, to)?;
+        Ok(Leaves { items, valid })
+    }
+
+    /// These values, and the others behind them: in the same memory where nothing else shares it.
+    #[tactic(auto, using(crate::proofs::Joins::leaf_rules))]
+    pub fn append(self, alloc: Global, others: &Leaves<T>) -> Result<Leaves<T>, AllocError>
+        ensures { IfOk result (λ c. c ≡ self ++ others.now) }
+    {
+        let Leaves { items, valid } = self;
+        let rows = items.as_slice().len();
+        let more = others.items.as_slice();
+        let valid = valid.append(alloc, rows, others.valid.as_slice(), more.len())?;
+        let items = items.append(alloc, more)?;
         Ok(Leaves { items, valid })
     }
 

@@ -5,8 +5,10 @@ ghost use Rattle.vx_model.specs.Words.{all_by};
 ghost use Rattle.vx_model.specs.CellData.{null_cell, fits};
 ghost use Rattle.vx_model.specs.TreeView.{tree};
 ghost use Rattle.vx_typed.specs.Typed.{typed_cells, is_leaf};
+ghost use Rattle.vx_typed.specs.Lent.{lent_cell};
 
 use crate::leaf::Leaf;
+use crate::lent::Lent;
 use std::alloc::{AllocError, Global};
 use vx_chunk_cells::flag_at;
 use vx_model::Cell;
@@ -24,6 +26,21 @@ pub(crate) fn cell_at<T: Leaf>(items: &[T], valid: &[bool], row: usize) -> Cell
     ensures { tree result ≡ slice_index_or (typed_cells T.as_cell items.now valid.now) row null_cell }
 {
     cell_of(flag_at(valid, row), items[row])
+}
+
+#[inline(always)]
+fn lent_of<'a, T: Leaf>(valid: bool, x: T) -> Lent<'a>
+    ensures { lent_cell result ≡ (if valid then T.as_cell x else null_cell) }
+{
+    if valid { x.lend() } else { Lent::Null }
+}
+
+#[tactic(auto, using(crate::proofs::Steps::get_rules))]
+pub(crate) fn lent_at<'a, T: Leaf>(items: &[T], valid: &[bool], row: usize) -> Lent<'a>
+    requires { row < length items.now }
+    ensures { lent_cell result ≡ slice_index_or (typed_cells T.as_cell items.now valid.now) row null_cell }
+{
+    lent_of(flag_at(valid, row), items[row])
 }
 
 /// Does nothing; tells a caller's proof that each cell is null, a number or a Bool.

@@ -23,7 +23,7 @@ use std::num::NonZeroU32;
 use vx_aggregate::AggregateFn;
 use vx_chunk::Chunk;
 use vx_model::{DType, Value};
-use vx_zone_record::{cells_record, held_aggregates};
+use vx_zone_record::{cells_record, held_aggregates, lent_record};
 
 /// Records each chunk of a stream as one zone, and refuses those that make no zones. Contracts see the type, the zone
 /// length, what is recorded, and the rows of the last chunk.
@@ -165,14 +165,15 @@ fn held_record(
     ensures memory { IfErr result (λ e. e ≡ GuardError.OutOfMemory) }
 {
     chunk.sound();
-    if let Some(cells) = chunk.as_cells() {
-        let values = cells_record(alloc, aggregates, dtype, cells)?;
+    if let Some(column) = chunk.as_column() {
+        let rows = column.rows(alloc)?;
+        let values = lent_record(alloc, aggregates, dtype, &rows)?;
         return Ok(values);
     }
     copied_record(alloc, aggregates, dtype, chunk)
 }
 
-/// The record of the rows of a chunk that doesn't hold them as cells.
+/// The record of the rows of a chunk that doesn't keep them as a column.
 fn copied_record(
     alloc: Global,
     aggregates: &[AggregateFn],

@@ -114,7 +114,7 @@ fn lacks(dtype: &DType, value: Scalar<'_>, literal: &Value) -> bool
 {
     match value {
         Scalar::Binary(bytes) => {
-            BloomFilter.stored_contains(bytes.as_slice(), dtype, literal) == Some(false)
+            BloomFilter.stored_contains(bytes, dtype, literal) == Some(false)
         }
         _ => false,
     }

@@ -1,9 +1,9 @@
 -- Values and cells as folds see them.
 use Rattle.std.proofs.Common.{◌≡◌, ℕ, List, map, refl, sym, subst}
 use Rattle.std.specs.Prelude.{Result, IfOk}
-use Rattle.vx_model.specs.declared.cell.Cell.{Cell}
 use Rattle.vx_model.specs.declared.row_value.Value.{Value}
-use Rattle.vx_model.specs.TreeView.{tree, val}
+use Rattle.vx_model.specs.TreeView.{val}
+use Rattle.vx_model.specs.CellData.{CellData}
 use Rattle.vx_model.specs.Ty.{Ty}
 use Rattle.vx_model.specs.ValueData.{ValueData, null_value, bool_value, int_value, text_value, bytes_value, list_value, struct_value, value}
 use Rattle.vx_aggregate_spec.specs.Aggregate.{Aggregate}
@@ -15,9 +15,9 @@ use Rattle.vx_zone_record.proofs.RowValues.{null_shallow}
 use Rattle.vx_zone_record.proofs.OrderSteps.{greater_null, greater_other, greater_takes, greater_stays, lesser_null, lesser_other, lesser_stays, lesser_takes}
 
 -- a value of what is seen of cells is one of their values
-pub value_seen : {E : Type 0} (hash : List ℕ → ℕ) (t : Ty) (cs : List Cell) (a : Aggregate) (r : Result Value E) → IfOk r (λ v. val v ≡ aggregate_value hash t (map (λ c. value (tree c)) cs) a)
-    → IfOk r (λ v. val v ≡ aggregate_value hash t (map value (map tree cs)) a)
-value_seen hash t cs a r h = subst (λ (vs : List ValueData). IfOk r (λ v. val v ≡ aggregate_value hash t vs a)) (sym (cells_seen cs)) h
+pub value_seen : {R E : Type 0} (f : R → CellData) (hash : List ℕ → ℕ) (t : Ty) (cs : List R) (a : Aggregate) (r : Result Value E) → IfOk r (λ v. val v ≡ aggregate_value hash t (map (λ c. value (f c)) cs) a)
+    → IfOk r (λ v. val v ≡ aggregate_value hash t (map value (map f cs)) a)
+value_seen f hash t cs a r h = subst (λ (vs : List ValueData). IfOk r (λ v. val v ≡ aggregate_value hash t vs a)) (sym (cells_seen f cs)) h
 
 pub ruleset seen_rules = (cells_seen)
 

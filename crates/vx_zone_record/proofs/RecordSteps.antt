@@ -6,8 +6,7 @@ use Rattle.vx_model.specs.Words.{all_by}
 use Rattle.vx_model.specs.Ty.{Ty}
 use Rattle.vx_model.specs.CellData.{CellData, fits}
 use Rattle.vx_model.specs.ValueData.{ValueData, value, value_fits, is_null_value, is_row_value}
-use Rattle.vx_model.specs.TreeView.{tree, val}
-use Rattle.vx_model.specs.declared.cell.Cell.{Cell}
+use Rattle.vx_model.specs.TreeView.{val}
 use Rattle.vx_model.specs.declared.row_value.Value.{Value}
 use Rattle.vx_bloom_spec.proofs.ValueFits.{value_fits-value}
 use Rattle.vx_aggregate_spec.specs.Aggregate.{Column, held_aggregates}
@@ -50,22 +49,23 @@ fits_end hash t f rows r xs i h short k le e =
     let l : length (map f rows) ≡ length rows = length-map rows f in
     record_fits_states hash t (map f rows) h (omega arith) r (map aggregate xs) k (all_folded hash t (map f rows) r xs i le e)
 
--- ---- the rows of cells
+-- ---- rows that are cells, by what they are seen as
 
 cell_fits : (t : Ty) (c : CellData) → fits t c ≡ true → is_row_value t (value c) ≡ true
 cell_fits t c h = or_right (is_null_value (value c)) (value_fits t (value c)) (value_fits-value t c h)
 
-pub cells_fit : (t : Ty) (cs : List Cell) → all_by (fits t) (map tree cs) ≡ true → all_by (is_row_value t) (map (λ c. value (tree c)) cs) ≡ true
-cells_fit t [] h = refl
-cells_fit t (c ∷ cs) h =
-    let parts : (fits t (tree c) ≡ true) × (all_by (fits t) (map tree cs) ≡ true) = and_parts (fits t (tree c)) (all_by (fits t) (map tree cs)) h in
-    and_from (is_row_value t (value (tree c))) (all_by (is_row_value t) (map (λ c. value (tree c)) cs)) (cell_fits t (tree c) parts.0) (cells_fit t cs parts.1)
+module _ {R : Type 0} (f : R → CellData) where
+  pub cells_fit : (t : Ty) (cs : List R) → all_by (fits t) (map f cs) ≡ true → all_by (is_row_value t) (map (λ c. value (f c)) cs) ≡ true
+  cells_fit t [] h = refl
+  cells_fit t (c ∷ cs) h =
+      let parts : (fits t (f c) ≡ true) × (all_by (fits t) (map f cs) ≡ true) = and_parts (fits t (f c)) (all_by (fits t) (map f cs)) h in
+      and_from (is_row_value t (value (f c))) (all_by (is_row_value t) (map (λ c. value (f c)) cs)) (cell_fits t (f c) parts.0) (cells_fit t cs parts.1)
 
-pub cells_seen : (cs : List Cell) → map value (map tree cs) ≡ map (λ c. value (tree c)) cs
-cells_seen [] = refl
-cells_seen (c ∷ cs) = ap (λ (vs : List ValueData). value (tree c) ∷ vs) (cells_seen cs)
+  pub cells_seen : (cs : List R) → map value (map f cs) ≡ map (λ c. value (f c)) cs
+  cells_seen [] = refl
+  cells_seen (c ∷ cs) = ap (λ (vs : List ValueData). value (f c) ∷ vs) (cells_seen cs)
 
--- the record of what is seen of cells is the record of their values
-pub record_seen : (hash : List ℕ → ℕ) (t : Ty) (cs : List Cell) (r : List ValueData) (columns : List Column) → r ≡ zone_record hash t (map (λ c. value (tree c)) cs) columns
-    → r ≡ zone_record hash t (map value (map tree cs)) columns
-record_seen hash t cs r columns e = e ∙ ap (λ (vs : List ValueData). zone_record hash t vs columns) (sym (cells_seen cs))
+  -- the record of what is seen of cells is the record of their values
+  pub record_seen : (hash : List ℕ → ℕ) (t : Ty) (cs : List R) (r : List ValueData) (columns : List Column) → r ≡ zone_record hash t (map (λ c. value (f c)) cs) columns
+      → r ≡ zone_record hash t (map value (map f cs)) columns
+  record_seen hash t cs r columns e = e ∙ ap (λ (vs : List ValueData). zone_record hash t vs columns) (sym (cells_seen cs))

@@ -35,51 +35,47 @@ pub(crate) fn lower_bound(alloc: Global, scalar: Scalar<'_>, most: u64) -> Resul
 }
 
 #[tactic(auto, using(crate::proofs::BoundSteps::bound_rules))]
-pub(crate) fn upper_bytes(alloc: Global, bytes: &Blob, most: u64) -> Result<Value, AllocError>
+pub(crate) fn upper_bytes(alloc: Global, bytes: &[u8], most: u64) -> Result<Value, AllocError>
     ensures { IfOk result (λ v. val v ≡ upper_bound most (bytes_value bytes.now)) }
 {
-    let whole = bytes.as_slice();
-    if whole.len() <= most as usize {
-        return Ok(Value::Binary(bytes.clone()?));
+    if bytes.len() <= most as usize {
+        return Ok(Value::Binary(Blob::from_slice(alloc, bytes)?));
     }
-    match last_rising_byte(&whole[..most as usize]) {
+    match last_rising_byte(&bytes[..most as usize]) {
         Some((before, last)) => Ok(Value::Binary(with_byte(alloc, before, last + 1)?)),
         None => Ok(Value::Null),
     }
 }
 
 #[tactic(auto, using(crate::proofs::BoundSteps::bound_rules))]
-pub(crate) fn lower_bytes(alloc: Global, bytes: &Blob, most: u64) -> Result<Value, AllocError>
+pub(crate) fn lower_bytes(alloc: Global, bytes: &[u8], most: u64) -> Result<Value, AllocError>
     ensures { IfOk result (λ v. val v ≡ lower_bound most (bytes_value bytes.now)) }
 {
-    let whole = bytes.as_slice();
-    let kept = whole.len().min(most as usize);
-    Ok(Value::Binary(Blob::from_slice(alloc, &whole[..kept])?))
+    let kept = bytes.len().min(most as usize);
+    Ok(Value::Binary(Blob::from_slice(alloc, &bytes[..kept])?))
 }
 
 #[tactic(auto, using(crate::proofs::BoundSteps::bound_rules))]
-pub(crate) fn upper_text(alloc: Global, text: &Text, most: u64) -> Result<Value, AllocError>
+pub(crate) fn upper_text(alloc: Global, text: &str, most: u64) -> Result<Value, AllocError>
     ensures { IfOk result (λ v. val v ≡ upper_bound most (text_value text.now)) }
 {
-    let whole = text.as_str();
-    if whole.len() <= most as usize {
-        return Ok(Value::Utf8(text.clone()?));
+    if text.len() <= most as usize {
+        return Ok(Value::Utf8(Text::from_str(alloc, text)?));
     }
-    match last_rising_char(front(whole, most as usize)) {
+    match last_rising_char(front(text, most as usize)) {
         Some((before, last)) => { Ok(Value::Utf8(with_char(alloc, before, next_char(last))?)) }
         None => Ok(Value::Null),
     }
 }
 
 #[tactic(auto, using(crate::proofs::BoundSteps::bound_rules))]
-pub(crate) fn lower_text(alloc: Global, text: &Text, most: u64) -> Result<Value, AllocError>
+pub(crate) fn lower_text(alloc: Global, text: &str, most: u64) -> Result<Value, AllocError>
     ensures { IfOk result (λ v. val v ≡ lower_bound most (text_value text.now)) }
 {
-    let whole = text.as_str();
-    if whole.len() <= most as usize {
-        return Ok(Value::Utf8(text.clone()?));
+    if text.len() <= most as usize {
+        return Ok(Value::Utf8(Text::from_str(alloc, text)?));
     }
-    let kept = front(whole, most as usize);
+    let kept = front(text, most as usize);
     Ok(Value::Utf8(Text::from_str(alloc, kept)?))
 }
 

@@ -60,7 +60,7 @@ fn insert(partial: &mut BloomPartial<XxHash3_64>, column: &DType, scalar: Scalar
             let _ = partial.insert_scalar(column, &number);
             drop(number);
         }
-        Scalar::Utf8(text) => partial.insert(text.as_str().as_bytes()),
-        Scalar::Binary(bytes) => partial.insert(bytes.as_slice()),
+        Scalar::Utf8(text) => partial.insert(text.as_bytes()),
+        Scalar::Binary(bytes) => partial.insert(bytes),
     }
 }

@@ -14,7 +14,9 @@ mod zones;
 
 pub use error::RecordError;
 pub use held::held_aggregates;
-pub use parts::{cells_value, greater, lesser, lower_bound, null_count, upper_bound};
+pub use parts::{
+    cells_value, greater, lesser, lower_bound, null_count, null_rows, rows_value, upper_bound,
+};
 pub use row::Row;
 pub use scalar::{Scalar, is_at_most};
-pub use zones::{cells_record, zone_record};
+pub use zones::{cells_record, lent_record, zone_record};

@@ -5,6 +5,7 @@ ghost use Rattle.vx_hash.specs.XxHash3.{xxhash3_64};
 ghost use Rattle.vx_model.specs.Words.{all_by};
 ghost use Rattle.vx_model.specs.TyView.{ty};
 ghost use Rattle.vx_model.specs.TreeView.{tree, val};
+ghost use Rattle.vx_typed.specs.Lent.{lent_cell};
 ghost use Rattle.vx_model.specs.CellData.{fits};
 ghost use Rattle.vx_model.specs.ValueData.{value};
 ghost use Rattle.vx_aggregate.specs.AggregateView.{aggregate as aggregate_of};
@@ -20,6 +21,7 @@ use crate::{folds, values};
 use std::alloc::{AllocError, Global};
 use vx_aggregate::AggregateFn;
 use vx_model::{Cell, DType, Value};
+use vx_typed::Lent;
 
 /// The aggregate's value of the rows that a reader sees of these cells, as `cells_record` has it.
 pub fn cells_value(
@@ -35,12 +37,34 @@ pub fn cells_value(
     values::aggregate_value(alloc, aggregate, column, cells)
 }
 
+/// The same of the rows of a column that are lent.
+pub fn rows_value(
+    alloc: Global,
+    aggregate: AggregateFn,
+    column: &DType,
+    rows: &[Lent<'_>],
+) -> Result<Value, AllocError>
+    requires held { IsTrue (has_state (ty column.now) (aggregate_of aggregate)) }
+    requires fit { IsTrue (all_by (fits (ty column.now)) (map lent_cell rows.now)) }
+    ensures { IfOk result (λ v. val v ≡ aggregate_value xxhash3_64 (ty column.now) (map value (map lent_cell rows.now)) (aggregate_of aggregate)) }
+{
+    values::aggregate_value(alloc, aggregate, column, rows)
+}
+
 /// The rows that a reader sees as null.
 #[tactic(auto, using(crate::proofs::PartSteps::seen_rules))]
 pub fn null_count(cells: &[Cell]) -> u64
     ensures { result ≡ nulls (map value (map tree cells.now)) }
 {
     folds::null_count(cells)
+}
+
+/// The same of the rows of a column that are lent.
+#[tactic(auto, using(crate::proofs::PartSteps::seen_rules))]
+pub fn null_rows(rows: &[Lent<'_>]) -> u64
+    ensures { result ≡ nulls (map value (map lent_cell rows.now)) }
+{
+    folds::null_count(rows)
 }
 
 /// At least the value, in so many bytes and at most one more; null where there is no such bound. What isn't a text or
@@ -50,8 +74,8 @@ pub fn upper_bound(alloc: Global, value: &Value, most: u64) -> Result<Value, All
     ensures { IfOk result (λ v. val v ≡ above most (val value.now)) }
 {
     match value {
-        Value::Utf8(text) => upper_text(alloc, text, most),
-        Value::Binary(bytes) => upper_bytes(alloc, bytes, most),
+        Value::Utf8(text) => upper_text(alloc, text.as_str(), most),
+        Value::Binary(bytes) => upper_bytes(alloc, bytes.as_slice(), most),
         Value::Null | Value::Bool(_) | Value::Int(_) => value.clone(),
         Value::List(_) | Value::Struct(_) => value.clone(),
     }
@@ -63,8 +87,8 @@ pub fn lower_bound(alloc: Global, value: &Value, most: u64) -> Result<Value, All
     ensures { IfOk result (λ v. val v ≡ below most (val value.now)) }
 {
     match value {
-        Value::Utf8(text) => lower_text(alloc, text, most),
-        Value::Binary(bytes) => lower_bytes(alloc, bytes, most),
+        Value::Utf8(text) => lower_text(alloc, text.as_str(), most),
+        Value::Binary(bytes) => lower_bytes(alloc, bytes.as_slice(), most),
         Value::Null | Value::Bool(_) | Value::Int(_) => value.clone(),
         Value::List(_) | Value::Struct(_) => value.clone(),
     }

@@ -16,8 +16,8 @@ pub enum Scalar<'a> {
     Null,
     Bool(bool),
     Int(i128),
-    Utf8(&'a Text),
-    Binary(&'a Blob),
+    Utf8(&'a str),
+    Binary(&'a [u8]),
     Nested,
 }
 
@@ -30,8 +30,8 @@ pub(crate) fn to_value(alloc: Global, scalar: Scalar<'_>) -> Result<Value, Alloc
         Scalar::Null => Ok(Value::Null),
         Scalar::Bool(b) => Ok(Value::Bool(b)),
         Scalar::Int(n) => Ok(Value::Int(n)),
-        Scalar::Utf8(text) => Ok(Value::Utf8(text.clone()?)),
-        Scalar::Binary(bytes) => Ok(Value::Binary(bytes.clone()?)),
+        Scalar::Utf8(text) => Ok(Value::Utf8(Text::from_str(alloc, text)?)),
+        Scalar::Binary(bytes) => Ok(Value::Binary(Blob::from_slice(alloc, bytes)?)),
         Scalar::Nested => Ok(Value::List(Vec::new(alloc))),
     }
 }
@@ -62,8 +62,8 @@ pub fn is_at_most(a: Scalar<'_>, b: Scalar<'_>) -> bool
     match (a, b) {
         (Scalar::Bool(a), Scalar::Bool(b)) => !a || b,
         (Scalar::Int(a), Scalar::Int(b)) => a <= b,
-        (Scalar::Utf8(a), Scalar::Utf8(b)) => a.as_str() <= b.as_str(),
-        (Scalar::Binary(a), Scalar::Binary(b)) => a.as_slice() <= b.as_slice(),
+        (Scalar::Utf8(a), Scalar::Utf8(b)) => a <= b,
+        (Scalar::Binary(a), Scalar::Binary(b)) => a <= b,
         _ => false,
     }
 }

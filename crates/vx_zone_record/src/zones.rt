@@ -5,6 +5,7 @@ ghost use Rattle.vx_hash.specs.XxHash3.{xxhash3_64};
 ghost use Rattle.vx_model.specs.Words.{all_by};
 ghost use Rattle.vx_model.specs.TyView.{ty};
 ghost use Rattle.vx_model.specs.TreeView.{tree, val};
+ghost use Rattle.vx_typed.specs.Lent.{lent_cell};
 ghost use Rattle.vx_model.specs.CellData.{fits};
 ghost use Rattle.vx_model.specs.ValueData.{value, is_row_value};
 ghost use Rattle.vx_aggregate_spec.specs.Aggregate.{Column, held_aggregates};
@@ -19,6 +20,7 @@ use crate::values::aggregate_value;
 use std::alloc::{AllocError, Global};
 use vx_aggregate::AggregateFn;
 use vx_model::{Cell, DType, Value};
+use vx_typed::Lent;
 
 /// The record of a zone of these row values: one value an aggregate, in order. Walks the values once an aggregate, and
 /// copies none but those that the record keeps. `vx_model::is_row_value` and `AggregateFn::state_dtype` test the
@@ -39,7 +41,7 @@ pub fn zone_record(
     Ok(rows_record(alloc, aggregates, column, values)?)
 }
 
-/// The same of the rows that a reader sees of these cells, as `Chunk::as_cells` has them.
+/// The same of the rows that a reader sees of these cells, as a plain chunk keeps them.
 pub fn cells_record(
     alloc: Global,
     aggregates: &[AggregateFn],
@@ -54,6 +56,23 @@ pub fn cells_record(
     ensures memory { IfErr result (λ e. e ≡ RecordError.OutOfMemory) }
 {
     Ok(rows_record(alloc, aggregates, column, cells)?)
+}
+
+/// The same of the rows of a column that are lent.
+pub fn lent_record(
+    alloc: Global,
+    aggregates: &[AggregateFn],
+    column: &DType,
+    rows: &[Lent<'_>],
+) -> Result<Vec<Value>, RecordError>
+    requires held { IsTrue (all_by (has_state (ty column.now)) (map aggregate_of aggregates.now)) }
+    requires fit { IsTrue (all_by (fits (ty column.now)) (map lent_cell rows.now)) }
+    ensures record { IfOk result (λ v. (columns : List Column) → names_of columns ≡ map aggregate_of aggregates.now
+        → map val v.items ≡ zone_record xxhash3_64 (ty column.now) (map value (map lent_cell rows.now)) columns) }
+    ensures fits { IfOk result (λ v. IsTrue (record_fits (held_aggregates (map aggregate_of aggregates.now) (ty column.now)) (map val v.items))) }
+    ensures memory { IfErr result (λ e. e ≡ RecordError.OutOfMemory) }
+{
+    Ok(rows_record(alloc, aggregates, column, rows)?)
 }
 
 fn rows_record<R: Row>(

@@ -19,7 +19,7 @@ pub push_lists_apart-returns-in-Dict-clause-offsets :
     goal.push_lists_apart-returns-in-Dict-clause-offsets
 push_lists_apart-returns-in-Dict-clause-offsets t c =
     let same = (dict_parts_are c.chunk.inside.node c.in-Dict.codes c.in-Dict.values c.in-Dict.is c.chunk.invariant).1 (length c.args.elements.now.items) in
-    rw (← c.chunk.view_is, same) (rw (c.len.ensures, c.len-in-Dict.ensures.rows, c.deref-in-Dict.ensures, c.args.elements.now.ok.0) at c.push_same_offset.ensures)
+    rw (← c.chunk.view_is, same) (rw (c.len.ensures, c.len-in-Dict.ensures.rows, c.deref.ensures, c.args.elements.now.ok.0) at c.push_same_offset.ensures)
 
 pub push_lists_apart-returns-in-List-clause-elements :
     goal.push_lists_apart-returns-in-List-clause-elements

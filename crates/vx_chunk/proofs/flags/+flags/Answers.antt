@@ -16,4 +16,4 @@ push_valid-returns-in-Dict t c =
     let sound = in_dict c.chunk.inside.node c.in-Dict.codes c.in-Dict.values c.in-Dict.is c.chunk.invariant in
     let vs = c.in-Dict.values.value in
     rw (← c.chunk.view_is, dict_cells c.chunk.inside.node c.in-Dict.codes c.in-Dict.values c.in-Dict.is, picked_flags (piece_type vs) (cells vs) (cells c.in-Dict.codes.value) sound.dict_type (cells_fit vs sound.values_sound))
-    (rw (c.len.ensures.rows, c.deref-in-Dict.ensures) at c.push_same_flag-in-Dict.ensures)
+    (rw (c.len.ensures.rows, c.deref.ensures) at c.push_same_flag-in-Dict.ensures)

@@ -18,7 +18,7 @@ use Rattle.vx_chunk.proofs.rows.+cells.Goals as goal
 pub push_between-push_values-requires-clause-values :
     goal.push_between-push_values-requires-clause-values
 push_between-push_values-requires-clause-values t c =
-    rw c.deref-in-Dict-2.ensures (in_dict c.chunk.inside.node c.in-Dict.codes c.in-Dict.values c.in-Dict.is c.chunk.invariant).values_simple
+    rw c.deref-in-Dict.ensures (in_dict c.chunk.inside.node c.in-Dict.codes c.in-Dict.values c.in-Dict.is c.chunk.invariant).values_simple
 
 pub push_between-offsets_between-offsets-requires-clause-within :
     goal.push_between-offsets_between-offsets-requires-clause-within
@@ -37,7 +37,7 @@ push_between-push_fields-requires t c =
 
 pub push_between-returns-in-Dict : goal.push_between-returns-in-Dict
 push_between-returns-in-Dict t c =
-    rw (← c.chunk.view_is, ← dict_window c.chunk.inside.node c.in-Dict.codes c.in-Dict.values c.args.from c.args.to c.in-Dict.is) (rw (c.deref-in-Dict.ensures, c.deref-in-Dict-2.ensures) at c.push_values.ensures)
+    rw (← c.chunk.view_is, ← dict_window c.chunk.inside.node c.in-Dict.codes c.in-Dict.values c.args.from c.args.to c.in-Dict.is) (rw (c.deref.ensures, c.deref-in-Dict.ensures) at c.push_values.ensures)
 
 pub push_between-returns-in-List : goal.push_between-returns-in-List
 push_between-returns-in-List t c =

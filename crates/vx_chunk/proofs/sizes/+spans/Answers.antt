@@ -11,7 +11,7 @@ use Rattle.vx_chunk.proofs.sizes.+spans.Goals as goal
 pub span_bytes-values_bytes-requires-clause-values :
     goal.span_bytes-values_bytes-requires-clause-values
 span_bytes-values_bytes-requires-clause-values t c =
-    rw c.deref-in-Dict-2.ensures (in_dict c.chunk.inside.node c.in-Dict.codes c.in-Dict.values c.in-Dict.is c.chunk.invariant).values_simple
+    rw c.deref-in-Dict.ensures (in_dict c.chunk.inside.node c.in-Dict.codes c.in-Dict.values c.in-Dict.is c.chunk.invariant).values_simple
 
 pub span_bytes-offsets_between-offsets-requires-clause-within :
     goal.span_bytes-offsets_between-offsets-requires-clause-within
@@ -30,7 +30,7 @@ span_bytes-fields_bytes-requires t c =
 
 pub span_bytes-returns-in-Dict : goal.span_bytes-returns-in-Dict
 span_bytes-returns-in-Dict t c =
-    rw (← c.chunk.view_is, dict_span c.chunk.inside.node c.in-Dict.codes c.in-Dict.values c.args.from c.args.to c.in-Dict.is) (rw (c.deref-in-Dict.ensures, c.deref-in-Dict-2.ensures) at c.values_bytes.ensures)
+    rw (← c.chunk.view_is, dict_span c.chunk.inside.node c.in-Dict.codes c.in-Dict.values c.args.from c.args.to c.in-Dict.is) (rw (c.deref.ensures, c.deref-in-Dict.ensures) at c.values_bytes.ensures)
 
 pub elements_bytes-span_bytes-requires : goal.elements_bytes-span_bytes-requires
 elements_bytes-span_bytes-requires t c =

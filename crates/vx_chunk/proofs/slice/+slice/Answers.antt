@@ -33,14 +33,14 @@ cut_list-cut-requires t c =
     let some : 1 ≤ length os = some_offset (length (cells c.args.elements.now)) os c.requires in
     (search rules, (rw (first_is os, last_at os some) h.2, rw (last_at os some) h.1))
 
-pub cut_list-rebase-requires : goal.cut_list-rebase-requires
-cut_list-rebase-requires t c = (offsets_within (length (cells c.args.elements.now)) c.args.offsets.now c.requires).0
+pub cut_list-list_of-requires : goal.cut_list-list_of-requires
+cut_list-list_of-requires t c = (offsets_within (length (cells c.args.elements.now)) c.args.offsets.now c.requires).0
 
 pub cut_list-returns : goal.cut_list-returns
 cut_list-returns t c =
     let os = c.args.offsets.now in
     let some : 1 ≤ length os = some_offset (length (cells c.args.elements.now)) os c.requires in
-    rw (c.in_ok-clone.ensures.cases, c.in_ok-new.ensures.ok, c.in_ok-cut.ensures, first_is os, last_at os some, c.in_ok-rebase.ensures, c.in_ok-from_slice.ensures.items) refl
+    rw (c.in_ok-elements.ensures, first_is os, last_at os some) at c.list_of.ensures
 
 pub cut_node-offsets_between-offsets-requires-clause-within :
     goal.cut_node-offsets_between-offsets-requires-clause-within
@@ -55,7 +55,7 @@ cut_node-cut_list-requires t c =
 
 pub cut_node-cut_each-requires : goal.cut_node-cut_each-requires
 cut_node-cut_each-requires t c =
-    (search rules, (c.requires.order, rw c.deref-in-Struct-2.ensures.value (fields_have c.args.node.now c.in-Struct.dtype c.in-Struct.fields c.in-Struct.valid c.in-Struct.rows c.args.to c.in-Struct.is c.requires.sound c.requires.within)))
+    (search rules, (c.requires.order, rw c.deref-in-Struct.ensures.value (fields_have c.args.node.now c.in-Struct.dtype c.in-Struct.fields c.in-Struct.valid c.in-Struct.rows c.args.to c.in-Struct.is c.requires.sound c.requires.within)))
 
 pub cut_parts-returns : goal.cut_parts-returns
 cut_parts-returns t c =

@@ -4,7 +4,7 @@ use Rattle.vx_model.specs.Words.{all_by}
 use Rattle.vx_model.specs.CellData.{CellData, fits}
 use Rattle.vx_model.specs.ChunkData.{plain_piece}
 use Rattle.vx_model.specs.TyView.{ty}
-use Rattle.vx_model.specs.TreeView.{tree}
+use Rattle.vx_column.specs.ColumnView.{column_cells}
 use Rattle.vx_rules.specs.Runs.{stretches, codes_piece}
 use Rattle.vx_react.specs.declared.place.Place.TheVariants.{Codes, Values}
 use Rattle.vx_react.specs.Cutter.{cut_outputs, closed_outputs}
@@ -23,19 +23,19 @@ returns-in_err-next-clause-refused c =
 
 pub code_outputs-requires-clause-closed : goal.code_outputs-requires-clause-closed
 code_outputs-requires-clause-closed c =
-    (cut_fits (dict_options c.args.limits 0) (ty c.args.dtype.now) c.args.run.distinct c.args.run.cost (map tree c.args.cells.items) c.in_ok-rows.rows.closed.items c.in_ok-rows.rows.codes.items c.in_ok-rows.rows.distinct
+    (cut_fits (dict_options c.args.limits 0) (ty c.args.dtype.now) c.args.run.distinct c.args.run.cost (column_cells c.args.column.now) c.in_ok-rows.rows.closed.items c.in_ok-rows.rows.codes.items c.in_ok-rows.rows.distinct
     c.requires.standing c.requires.fit c.in_ok-rows.ensures.cut).closed
 
 pub code_outputs-requires-clause-codes : goal.code_outputs-requires-clause-codes
 code_outputs-requires-clause-codes c =
     ap (λ (ns : List ℕ). all_by (is_code_of (dict_options c.args.limits 0)) ns) c.deref.ensures.value
-    ∙ (cut_fits (dict_options c.args.limits 0) (ty c.args.dtype.now) c.args.run.distinct c.args.run.cost (map tree c.args.cells.items) c.in_ok-rows.rows.closed.items c.in_ok-rows.rows.codes.items c.in_ok-rows.rows.distinct
+    ∙ (cut_fits (dict_options c.args.limits 0) (ty c.args.dtype.now) c.args.run.distinct c.args.run.cost (column_cells c.args.column.now) c.in_ok-rows.rows.closed.items c.in_ok-rows.rows.codes.items c.in_ok-rows.rows.distinct
     c.requires.standing c.requires.fit c.in_ok-rows.ensures.cut).codes
 
 pub push_values-requires : goal.push_values-requires
 push_values-requires c =
     ap (λ (cs : List CellData). all_by (fits (ty c.args.dtype.now)) cs) c.into_cells.ensures
-    ∙ (cut_fits (dict_options c.args.limits 0) (ty c.args.dtype.now) c.args.run.distinct c.args.run.cost (map tree c.args.cells.items) c.in_ok-rows.rows.closed.items c.in_ok-rows.rows.codes.items c.in_ok-rows.rows.distinct
+    ∙ (cut_fits (dict_options c.args.limits 0) (ty c.args.dtype.now) c.args.run.distinct c.args.run.cost (column_cells c.args.column.now) c.in_ok-rows.rows.closed.items c.in_ok-rows.rows.codes.items c.in_ok-rows.rows.distinct
     c.requires.standing c.requires.fit c.in_ok-rows.ensures.cut).distinct
 
 pub returns-then-last-clause-gives : goal.returns-then-last-clause-gives
@@ -43,11 +43,11 @@ returns-then-last-clause-gives c =
     let count : c.len.result ≡ length c.in_ok-rows.rows.closed.items = search rules in
     let next : c.in_ok-next.next ≡ c.args.run.number + length c.in_ok-rows.rows.closed.items = c.in_ok-next.ensures.ok ∙ ap (λ (k : ℕ). c.args.run.number + k) count in
     gives_last (dict_options c.args.limits 0) (ty c.args.dtype.now) c.args.run.number c.in_ok-next.next c.in_ok-rows.rows.closed.items c.in_ok-rows.rows.codes.items c.in_ok-rows.rows.distinct
-    (stretches (dict_options c.args.limits 0) (ty c.args.dtype.now) c.args.run.distinct [] (map tree c.args.cells.items)) c.in_ok-outputs.outputs.items c.push_values.new.outputs.items c.in_ok-rows.ensures.cut next
+    (stretches (dict_options c.args.limits 0) (ty c.args.dtype.now) c.args.run.distinct [] (column_cells c.args.column.now)) c.in_ok-outputs.outputs.items c.push_values.new.outputs.items c.in_ok-rows.ensures.cut next
     (λ more. c.in_ok-outputs.ensures more
     ∙ ap (λ (ns : List ℕ). closed_outputs (dict_options c.args.limits 0) (ty c.args.dtype.now) c.args.run.number (pairs c.in_ok-rows.rows.closed.items) ((Codes (c.args.run.number + length c.in_ok-rows.rows.closed.items), codes_piece (dict_options c.args.limits 0) ns) ∷ more)) c.deref.ensures.value)
     (c.in_ok-push_values.ensures ∙ ap (λ (cs : List CellData). c.in_ok-outputs.outputs.items ++ (Values c.in_ok-next.next, plain_piece (ty c.args.dtype.now) cs) ∷ []) c.into_cells.ensures)
-    ∙ ap (λ (b : Bool). cut_outputs (dict_options c.args.limits 0) (ty c.args.dtype.now) c.args.run.number (stretches (dict_options c.args.limits 0) (ty c.args.dtype.now) c.args.run.distinct [] (map tree c.args.cells.items)) b) (sym c.if-last.true)
+    ∙ ap (λ (b : Bool). cut_outputs (dict_options c.args.limits 0) (ty c.args.dtype.now) c.args.run.number (stretches (dict_options c.args.limits 0) (ty c.args.dtype.now) c.args.run.distinct [] (column_cells c.args.column.now)) b) (sym c.if-last.true)
 
 pub returns-then-last-clause-fits : goal.returns-then-last-clause-fits
 returns-then-last-clause-fits c =
@@ -59,10 +59,10 @@ returns-then-last-clause-fits c =
 pub returns-clause-gives : goal.returns-clause-gives
 returns-clause-gives c =
     gives_open (dict_options c.args.limits 0) (ty c.args.dtype.now) c.args.run.number c.in_ok-rows.rows.closed.items c.in_ok-rows.rows.codes.items c.in_ok-rows.rows.distinct
-    (stretches (dict_options c.args.limits 0) (ty c.args.dtype.now) c.args.run.distinct [] (map tree c.args.cells.items)) c.in_ok-outputs.outputs.items c.in_ok-rows.ensures.cut
+    (stretches (dict_options c.args.limits 0) (ty c.args.dtype.now) c.args.run.distinct [] (column_cells c.args.column.now)) c.in_ok-outputs.outputs.items c.in_ok-rows.ensures.cut
     (λ more. c.in_ok-outputs.ensures more
     ∙ ap (λ (ns : List ℕ). closed_outputs (dict_options c.args.limits 0) (ty c.args.dtype.now) c.args.run.number (pairs c.in_ok-rows.rows.closed.items) ((Codes (c.args.run.number + length c.in_ok-rows.rows.closed.items), codes_piece (dict_options c.args.limits 0) ns) ∷ more)) c.deref.ensures.value)
-    ∙ ap (λ (b : Bool). cut_outputs (dict_options c.args.limits 0) (ty c.args.dtype.now) c.args.run.number (stretches (dict_options c.args.limits 0) (ty c.args.dtype.now) c.args.run.distinct [] (map tree c.args.cells.items)) b) (sym c.if-last.false)
+    ∙ ap (λ (b : Bool). cut_outputs (dict_options c.args.limits 0) (ty c.args.dtype.now) c.args.run.number (stretches (dict_options c.args.limits 0) (ty c.args.dtype.now) c.args.run.distinct [] (column_cells c.args.column.now)) b) (sym c.if-last.false)
 
 pub returns-clause-number : goal.returns-clause-number
 returns-clause-number c =
@@ -72,7 +72,7 @@ returns-clause-number c =
 pub returns-clause-standing : goal.returns-clause-standing
 returns-clause-standing c = record {
   dict = c.requires.standing.dict;
-  fit = (cut_fits (dict_options c.args.limits 0) (ty c.args.dtype.now) c.args.run.distinct c.args.run.cost (map tree c.args.cells.items) c.in_ok-rows.rows.closed.items c.in_ok-rows.rows.codes.items c.in_ok-rows.rows.distinct
+  fit = (cut_fits (dict_options c.args.limits 0) (ty c.args.dtype.now) c.args.run.distinct c.args.run.cost (column_cells c.args.column.now) c.in_ok-rows.rows.closed.items c.in_ok-rows.rows.codes.items c.in_ok-rows.rows.distinct
       c.requires.standing c.requires.fit c.in_ok-rows.ensures.cut).distinct;
   running = c.in_ok-rows.ensures.running;
 }

@@ -17,4 +17,4 @@ put_together-requires c =
 pub returns-in_ok-columns-in-Ok-clause-columns : goal.returns-in_ok-columns-in-Ok-clause-columns
 returns-in_ok-columns-in-Ok-clause-columns c =
     let cs = cells c.args.chunk in
-    rw (c.in_ok-columns-in-Ok.ensures, c.in_ok-elements.ensures.elements, c.in-Ok-offset_cells.ensures, c.in_ok-elements.ensures.offsets, entries_behind c.args.first c.args.base cs, c.deref.ensures.value, c.in_ok-elements.ensures.valid) refl
+    rw (c.in_ok-columns-in-Ok.ensures, c.in_ok-elements.ensures.elements, c.in-Ok-offset_cells.ensures, c.in_ok-elements.ensures.offsets, entries_behind c.args.first c.args.base cs, c.in_ok-elements.ensures.valid) refl

@@ -1,13 +1,14 @@
 use Rattle.std.proofs.Common.{◌≡◌, ◌≤◌, ◌++◌, map, length, drop}
 use Rattle.vx_model.specs.TreeView.{tree}
+use Rattle.vx_column.specs.ColumnView.{column_cells}
 use Rattle.vx_rules.specs.Columns.{offset_cell}
 use Rattle.vx_rules.specs.Runs.{distinct_from}
 use Rattle.vx_compressor_spec.specs.TableImage.{distinct, codes_of}
 use Rattle.vx_table_compressor.proofs.dictionary.codes_and_values.Given as goal
 
-abbrev pub invariant-loop-cell : goal.invariant-loop-cell
-invariant-loop-cell l = record {
+abbrev pub invariant-loop-row : goal.invariant-loop-row
+invariant-loop-row l = record {
   few : length l.values ≤ l.most;
-  values : distinct_from l.values (map tree (drop l.cell-index l.cells)) ≡ distinct (map tree l.cells);
-  codes : map tree l.codes.items ++ map offset_cell (codes_of (distinct (map tree l.cells)) (map tree (drop l.cell-index l.cells))) ≡ map offset_cell (codes_of (distinct (map tree l.cells)) (map tree l.cells));
+  values : distinct_from l.values (drop l.row (column_cells l.column)) ≡ distinct (column_cells l.column);
+  codes : map tree l.codes.items ++ map offset_cell (codes_of (distinct (column_cells l.column)) (drop l.row (column_cells l.column))) ≡ map offset_cell (codes_of (distinct (column_cells l.column)) (column_cells l.column));
 }

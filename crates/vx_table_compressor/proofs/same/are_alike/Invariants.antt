@@ -1,10 +1,10 @@
-use Rattle.std.proofs.Common.{◌≡◌, map, drop, get_or}
+use Rattle.std.proofs.Common.{◌≡◌, drop}
 use Rattle.vx_model.specs.Words.{all_by}
-use Rattle.vx_model.specs.TreeView.{tree}
+use Rattle.vx_typed.specs.Lent.{lent_cell}
+use Rattle.vx_column.specs.ColumnView.{column_cells}
 use Rattle.vx_compressor_spec.specs.TableImage.{tree_eq}
-use Rattle.vx_model.specs.declared.cell.Cell.{Cell}
 use Rattle.vx_table_compressor.specs.Images.{are_alike}
 use Rattle.vx_table_compressor.proofs.same.are_alike.Given as goal
 
-abbrev pub invariant-loop-k : goal.invariant-loop-k
-invariant-loop-k l = (first : Cell) → first ≡ get_or l.cells 0 first → all_by (tree_eq (tree first)) (map tree (drop l.k l.cells)) ≡ are_alike (map tree l.cells)
+abbrev pub invariant-loop-row : goal.invariant-loop-row
+invariant-loop-row l = all_by (tree_eq (lent_cell l.first)) (drop l.row (column_cells l.column)) ≡ are_alike (column_cells l.column)

@@ -1,12 +1,13 @@
 use Rattle.vx_hash.specs.XxHash3.{xxhash3_64}
 use Rattle.vx_model.specs.TyView.{ty}
+use Rattle.vx_model.specs.TreeView.{tree}
 use Rattle.vx_aggregate.specs.AggregateView.{aggregate}
 use Rattle.vx_zone_record.proofs.RecordSteps.{cells_fit}
 use Rattle.vx_zone_record.proofs.PartSteps.{value_seen}
 use Rattle.vx_zone_record.proofs.parts.cells_value.Goals as goal
 
 pub aggregate_value-requires-clause-fit : goal.aggregate_value-requires-clause-fit
-aggregate_value-requires-clause-fit c = cells_fit (ty c.args.column.now) c.args.cells.now c.requires.fit
+aggregate_value-requires-clause-fit c = cells_fit tree (ty c.args.column.now) c.args.cells.now c.requires.fit
 
 pub returns : goal.returns
-returns c = value_seen xxhash3_64 (ty c.args.column.now) c.args.cells.now (aggregate c.args.aggregate) c.aggregate_value.result c.aggregate_value.ensures
+returns c = value_seen tree xxhash3_64 (ty c.args.column.now) c.args.cells.now (aggregate c.args.aggregate) c.aggregate_value.result c.aggregate_value.ensures

@@ -1,0 +1,2 @@
+pub mod StringSteps
+pub mod Joins
