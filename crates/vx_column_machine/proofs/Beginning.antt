@@ -4,6 +4,7 @@ use Rattle.std.proofs.lemmas.Bool.{true≢false}
 use Rattle.vx_model.specs.Ty.{Ty}
 use Rattle.vx_model.specs.ChunkData.{ChunkData}
 use Rattle.vx_path.specs.Path.{Eof, column_eof}
+use Rattle.vx_named_tasks.specs.Names.{onward}
 use Rattle.vx_sequence.specs.Universe.{Active, only, root as only_root}
 use Rattle.vx_order.specs.Outlet.{Outlet, own, shared}
 use Rattle.vx_tasks.specs.Runs.{first_batch}
@@ -65,7 +66,7 @@ module _ (x : Course) (allowed : Allowed) (way : StrategyData) (t : Ty) (mark : 
   eof_now : eof ≡ column_eof x.number
   eof_now = eof_is ∙ ap column_eof (sym g.number_is)
 
-  pub stands : (m : Machine) (written : ℕ) → written ≡ 0 → Begins allowed way t mark stream eof m → Counted eof (first_indices (form_at way t) mark eof) → StandsAt x m to_come written []
+  pub stands : (m : Machine) (written : ℕ) → written ≡ 0 → Begins allowed way t mark (onward stream) eof m → Counted eof (first_indices (form_at way t) mark eof) → StandsAt x m to_come written []
   stands m written none begins counted = record {
     notes = [];
     point = start_of x;
@@ -89,9 +90,9 @@ module _ (x : Course) (allowed : Allowed) (way : StrategyData) (t : Ty) (mark : 
     paths_are = refl;
   }
     where
-      come : HasCome (write_of x) first_batch (column_eof x.number) [] (start_of x) m
-      come = subst (λ z. HasCome (write_of x) first_batch z [] (start_point (write_of x) first_batch z) m) eof_now
-          (subst (λ z. HasCome (write_of x) z eof [] (start_point (write_of x) z eof) m) stream_is (begins (write_of x) g.careful g.allowed_is g.way_is g.type_is g.mark_is))
+      come : HasCome (write_of x) (onward first_batch) (column_eof x.number) [] (start_of x) m
+      come = subst (λ z. HasCome (write_of x) (onward first_batch) z [] (start_point (write_of x) (onward first_batch) z) m) eof_now
+          (subst (λ z. HasCome (write_of x) (onward z) eof [] (start_point (write_of x) (onward z) eof) m) stream_is (begins (write_of x) g.careful g.allowed_is g.way_is g.type_is g.mark_is))
 
   -- why it wasn't begun
   pub begin_cause : StartFaultStands → StartFaultsAgree → CourseStartHasCause → (e : WriteError) → FormRefused allowed (form_at way t) mark eof e → HasCause x e

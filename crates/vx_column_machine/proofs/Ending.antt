@@ -8,6 +8,7 @@ use Rattle.vx_plan.specs.PlanData.{Pair, Plan}
 use Rattle.vx_plan.specs.Number.{path_of, sorted}
 use Rattle.vx_plan.specs.Valid.{Fit}
 use Rattle.vx_path.specs.Path.{column_eof}
+use Rattle.vx_named_tasks.specs.Names.{onward}
 use Rattle.vx_machine_turns.specs.Source.{stream_plan}
 use Rattle.vx_machine_state.specs.Acts.{layouts_in}
 use Rattle.vx_machine_view.specs.Machine.{Machine, is_finished}
@@ -27,7 +28,7 @@ module _ (ends : CourseEnds) (fits : CourseFits) (x : Course) (m : Machine) (to_
   taken_plan = stream_plan x.setting x.column.way x.column.type x.column.mark (outset_of x.number) h.point.taken true
 
   ended : FinishedBy taken_plan h.point
-  ended = ends (write_of x) first_batch (column_eof x.number) h.notes h.point (has_come x m to_come written paths h).come (can_begin x.number (length h.point.taken)) fin_there
+  ended = ends (write_of x) (onward first_batch) (column_eof x.number) h.notes h.point (has_come x m to_come written paths h).come (can_begin x.number (length h.point.taken)) fin_there
 
   all_taken : x.chunks ≡ h.point.taken
   all_taken = h.taken ∙ ap (λ z. h.point.taken ++ z) (h.ended ended.heard) ∙ append-nil h.point.taken
@@ -36,7 +37,7 @@ module _ (ends : CourseEnds) (fits : CourseFits) (x : Course) (m : Machine) (to_
   plan_is = ap (λ z. stream_plan x.setting x.column.way x.column.type x.column.mark (outset_of x.number) z true) (sym all_taken)
 
   fit : Fit taken_plan.numbers
-  fit = fits (write_of x) first_batch (column_eof x.number) h.notes h.point (has_come x m to_come written paths h).come (can_begin x.number (length h.point.taken)) fin_there (omega arith) (omega arith) h.first h.counts
+  fit = fits (write_of x) (onward first_batch) (column_eof x.number) h.notes h.point (has_come x m to_come written paths h).come (can_begin x.number (length h.point.taken)) fin_there (omega arith) (omega arith) h.first h.counts
 
   history_is : h.point.history ≡ sorted (plan_of x).pairs
   history_is = ended.appended ∙ ap (λ (z : Plan). sorted z.pairs) plan_is

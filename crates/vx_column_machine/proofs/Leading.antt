@@ -14,6 +14,7 @@ use Rattle.vx_plan.specs.Number.{sorted}
 use Rattle.vx_write_answer.specs.declared.step.Step.{Step}
 use Rattle.vx_moved_plans.specs.Moved.{at_column}
 use Rattle.vx_path.specs.Path.{column_eof}
+use Rattle.vx_named_tasks.specs.Names.{onward}
 use Rattle.vx_machine_turns.specs.Source.{stream_plan}
 use Rattle.vx_machine_steps.specs.Runs.{picks_after}
 use Rattle.vx_machine_promises.specs.Write.{Write, Future, Open, Answer, unasked, came, over, taken_by, heard_by}
@@ -72,7 +73,7 @@ paths_append k (x ∷ xs) ys = ap (λ z. at_column k x.0 ∷ z) (paths_append k 
 -- ---- where it stands
 
 module _ (x : Course) (m : Machine) (to_come : Option (List ChunkData)) (written : ℕ) (paths : List (List ℕ)) (h : StandsAt x m to_come written paths) where
-  abbrev pub has_come : HasCome (write_of x) first_batch (column_eof x.number) h.notes h.point m
+  abbrev pub has_come : HasCome (write_of x) (onward first_batch) (column_eof x.number) h.notes h.point m
   has_come = record { come = record { careful = h.careful; starts = h.starts; picked = h.picked; comes = h.comes }; machine_is = h.machine_is }
 
   -- the chunks that are still to come
@@ -85,7 +86,7 @@ module _ (x : Course) (m : Machine) (to_come : Option (List ChunkData)) (written
   -- what was written are the first pairs of the plan
   pub front_of : CourseIsFront → (more : List Pair) × (sorted (plan_of x).pairs ≡ h.point.history ++ more) × ((p : Pair) → In p more → AtLeast (machine_ids m) p.0)
   front_of front =
-      let e = front (write_of x) first_batch (column_eof x.number) h.notes h.point has_come.come future may_come (can_begin x.number (length (h.point.taken ++ h.later))) in (
+      let e = front (write_of x) (onward first_batch) (column_eof x.number) h.notes h.point has_come.come future may_come (can_begin x.number (length (h.point.taken ++ h.later))) in (
         e.0,
         ap (λ z. sorted (stream_plan x.setting x.column.way x.column.type x.column.mark (outset_of x.number) z true).pairs) h.taken ∙ e.1,
         λ p i. subst (λ z. AtLeast (machine_ids z) p.0) (sym h.machine_is) (e.2 p i),
@@ -94,7 +95,7 @@ module _ (x : Course) (m : Machine) (to_come : Option (List ChunkData)) (written
 -- ---- one step
 
 module _ (x : Course) (m : Machine) (to_come : Option (List ChunkData)) (written : ℕ) (paths : List (List ℕ)) (h : StandsAt x m to_come written paths) (now : Option (List ChunkData)) (kept kept_now : List (List ℕ))
-    (written_now : ℕ) (new : Machine) (s : Step) (l : LeadsOn (write_of x) first_batch (column_eof x.number) h.notes h.point to_come now (outlet written kept) (outlet written_now kept_now) new s) (picked : s.picked ≡ 0 % s.ready) where
+    (written_now : ℕ) (new : Machine) (s : Step) (l : LeadsOn (write_of x) (onward first_batch) (column_eof x.number) h.notes h.point to_come now (outlet written kept) (outlet written_now kept_now) new s) (picked : s.picked ≡ 0 % s.ready) where
   picked_now : PickedBy [] (h.notes ++ (l.note ∷ []))
   picked_now = picked_more [] h.notes l.note h.picked
       (sym l.shows.1 ∙ picked ∙ ap (λ z. 0 % z) l.shows.0 ∙ ap (λ z. z % l.note.ready) (sym (none_picked (length h.notes))))

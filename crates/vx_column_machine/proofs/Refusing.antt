@@ -4,7 +4,7 @@ use Rattle.std.proofs.lemmas.Bool.{true≢false}
 use Rattle.vx_model.specs.Ty.{Ty}
 use Rattle.vx_model.specs.ChunkData.{ChunkData, piece_type}
 use Rattle.vx_path.specs.Lists.{In}
-use Rattle.vx_path.specs.Path.{Eof, column_eof}
+use Rattle.vx_path.specs.Path.{column_eof}
 use Rattle.vx_path.proofs.Sort.{length-sort_by}
 use Rattle.vx_tasks.specs.Run.{Note, nth, first_pick}
 use Rattle.vx_tasks.specs.Runs.{first_batch, noted}
@@ -16,7 +16,7 @@ use Rattle.vx_plan.specs.Valid.{OfSchema, Has}
 use Rattle.vx_plan.specs.Valid as valid
 use Rattle.vx_write_answer.specs.declared.error.WriteError.{WriteError}
 use Rattle.vx_write_answer.specs.declared.error.WriteError.TheVariants.{SourceFault, SinkFault, CompressFault, BatchType, NotStruct, DuplicateField, ManyChunks, EmptyList, ZoneCut, ForbiddenAggregate, ForbiddenEncoding, TooLarge, OutOfMemory, Stopped}
-use Rattle.vx_named_tasks.specs.Names.{onward}
+use Rattle.vx_named_tasks.specs.Names.{Names, onward}
 use Rattle.vx_machine_turns.specs.Planned.{StartFaultsAgree}
 use Rattle.vx_machine_turns.specs.Starts.{start_fault as form_fault}
 use Rattle.vx_machine_turns.specs.Source.{named_items, stream_plan}
@@ -96,7 +96,7 @@ module _ (x : Course) (m : Machine) (to_come : Option (List ChunkData)) (written
   asks = asking h.point.machine.phase k r.told (subst (λ (z : Machine). AsksAt z.phase k r.told) h.machine_is r.asks)
 
   once : BeforeEnd h.point.heard r.told
-  once = asked_before (write_of x) first_batch (column_eof x.number) h.notes h.point r.told k (has_come x m to_come written paths h).come asks
+  once = asked_before (write_of x) (onward first_batch) (column_eof x.number) h.notes h.point r.told k (has_come x m to_come written paths h).come asks
 
   rest : (rest : List ChunkData) × (x.chunks ≡ taken_by h.point.taken r.told ++ rest) × (heard_by h.point.heard r.told ≡ true → rest ≡ [])
   rest = rest_then h.point.machine.phase k x.column.type x.chunks h.point.taken h.later h.point.heard to_come now e r.told tells h.told h.taken h.ended
@@ -119,7 +119,7 @@ module _ (x : Course) (m : Machine) (to_come : Option (List ChunkData)) (written
     chosen = record { place = place; asks = asks; typed = refused_typed h.point.machine.phase k x.column.type to_come now e r.told tells; once = once; fits = fits }
 
     there : CausedThere (write_of x) (outset_of x.number) h.notes h.point taken future k r.step
-    there = causes (write_of x) first_batch (column_eof x.number) h.notes h.point r.told number k r.step future (has_come x m to_come written paths h).come chosen may_come (can_begin x.number (length (taken ++ rest.0)))
+    there = causes (write_of x) (onward first_batch) (column_eof x.number) h.notes h.point r.told number k r.step future (has_come x m to_come written paths h).come chosen may_come (can_begin x.number (length (taken ++ rest.0)))
 
     caused : Caused (plan_of x) r.step
     caused = subst (λ z. Caused z r.step) planned_is there.caused
@@ -149,8 +149,8 @@ module _ (x : Course) (m : Machine) (to_come : Option (List ChunkData)) (written
             record { told = r.told; number = number; step = r.step; place = place; asks = asks; typed = chosen.typed; once = once; fits = fits; unrefused = calm; note = refl; left = refl } in
             let pick : k ≡ first_pick (picks_after (length h.notes) []) % whole_ready (machine_ids h.point.machine) h.point.machine =
             k_is ∙ ap (λ z. 0 % whole_ready (machine_ids z) z) h.machine_is ∙ ap (λ z. z % whole_ready (machine_ids h.point.machine) h.point.machine) (sym (none_picked (length h.notes))) in
-            let led = on (write_of x) first_batch (column_eof x.number) h.notes h.point (point_after h.point r.told number r.step) n (has_come x m to_come written paths h).come d pick in
-            let f = front (write_of x) first_batch (column_eof x.number) (h.notes ++ (n ∷ [])) (point_after h.point r.told number r.step) led.0 future may_come (can_begin x.number (length (taken ++ rest.0))) in
+            let led = on (write_of x) (onward first_batch) (column_eof x.number) h.notes h.point (point_after h.point r.told number r.step) n (has_come x m to_come written paths h).come d pick in
+            let f = front (write_of x) (onward first_batch) (column_eof x.number) (h.notes ++ (n ∷ [])) (point_after h.point r.told number r.step) led.0 future may_come (can_begin x.number (length (taken ++ rest.0))) in
             let all : sorted (plan_of x).pairs ≡ (h.point.history ++ r.step.wrote) ++ f.0 = ap (λ (z : Plan). sorted z.pairs) (sym planned_is) ∙ f.1 in
             let a : length (sorted (plan_of x).pairs) ≡ length (plan_of x).pairs = length-sort_by path_of (plan_of x).pairs in
             let b : length ((h.point.history ++ r.step.wrote) ++ f.0) ≡ length (h.point.history ++ r.step.wrote) + length f.0 = length-append (h.point.history ++ r.step.wrote) f.0 in
@@ -211,9 +211,9 @@ module _ (x : Course) (m : Machine) (to_come : Option (List ChunkData)) (written
     where
       by : (b : Bool) → r.step.misfit ≡ b → HasCause x e
       by false fits = fit_cause fits e refl r.cause
-      by true is = at_source (misfits (write_of x) first_batch (column_eof x.number) h.notes h.point r.told number k r.step (has_come x m to_come written paths h).come (can_begin x.number (length h.point.taken)) place is)
+      by true is = at_source (misfits (write_of x) (onward first_batch) (column_eof x.number) h.notes h.point r.told number k r.step (has_come x m to_come written paths h).come (can_begin x.number (length h.point.taken)) place is)
         where
-          at_source : (d : Eof) × (h.point.machine.phase ≡ reading d) × (k ≡ 0) × (r.told ≡ unasked) → HasCause x e
+          at_source : (ns : Names) × (h.point.machine.phase ≡ reading ns) × (k ≡ 0) × (r.told ≡ unasked) → HasCause x e
           at_source (d, p, z, a) = read_cause e refl
               (subst (λ v. TellsRefused v 0 x.column.type to_come now e unasked) p (subst (λ v. TellsRefused h.point.machine.phase v x.column.type to_come now e unasked) z
               (subst (TellsRefused h.point.machine.phase k x.column.type to_come now e) a tells)))
@@ -229,7 +229,7 @@ module _ (faults : StartFaultStands) (agree : StartFaultsAgree) (counts : Course
   start_cause (DuplicateField name) h = fault_stands (duplicate_field name) (h x.setting allowed_is)
   start_cause (ForbiddenAggregate id) h = fault_stands (forbidden_aggregate id) (h x.setting allowed_is)
   start_cause (TooLarge n) h = inr (inl (subst (λ z. valid.IsPast z (plan_of x).numbers) (sym h.0)
-      (counts (write_of x) first_batch (column_eof x.number) (record { later = x.chunks; fits = true }) h.1.0 (can_begin x.number (length x.chunks)) h.1.1 h.1.2)))
+      (counts (write_of x) (onward first_batch) (column_eof x.number) (record { later = x.chunks; fits = true }) h.1.0 (can_begin x.number (length x.chunks)) h.1.1 h.1.2)))
   start_cause OutOfMemory h = tt
   start_cause SourceFault h = absurd h
   start_cause SinkFault h = absurd h

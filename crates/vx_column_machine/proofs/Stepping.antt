@@ -18,19 +18,22 @@ use Rattle.vx_write_answer.specs.declared.error.WriteError.TheVariants.{SourceFa
 use Rattle.vx_desk.specs.DeskView.{segments_in}
 use Rattle.vx_moved_plans.specs.Moved.{at_column}
 use Rattle.vx_path.specs.Path.{column_eof}
+use Rattle.vx_named_tasks.specs.Names.{onward}
 use Rattle.vx_machine_ids.specs.Balance.{Exact}
-use Rattle.vx_machine_view.specs.Machine.{is_finished, machine_ids}
-use Rattle.vx_machine_runs.specs.Courses.{CourseIsReady, CourseIsFront, CourseGoesOn, CourseHasCause, CourseMisfitIsRead}
+use Rattle.vx_machine_view.specs.Machine.{Machine as Plain, is_finished, machine_ids}
+use Rattle.vx_machine_runs.specs.Courses.{CourseIsReady, CourseIsFront, CourseGoesOn, CourseHasNames, CourseHasCause, CourseMisfitIsRead}
 use Rattle.vx_least_writes.specs.LeastWrites.{WritesLeast, StepsWriteLeast}
 use Rattle.vx_machine_node.specs.Context.{setting_of}
 use Rattle.vx_machine.proofs.ReservedSteps.{task_view}
 use Rattle.vx_machine.specs.declared.machine.Machine.{Machine}
 use Rattle.vx_machine.specs.View.{machine_of}
 use Rattle.vx_machine.specs.Whole.{machine_stock, machine_reserved, machine_ready}
+use Rattle.vx_machine.specs.Names.{HasNames}
 use Rattle.vx_machine.specs.Run.{ready_at}
 use Rattle.vx_machine.specs.Steps.{StepFails, StepRefused}
 use Rattle.vx_machine.specs.Progress.{LeadsOn, StepsOn}
 use Rattle.vx_machine.proofs.RunSteps.{ready_held, fails_held}
+use Rattle.vx_machine.proofs.Coming.{can_onward, has_names}
 use Rattle.vx_machine.proofs.Going.{pick_here}
 use Rattle.vx_column_machine.specs.Course.{Course, write_of, plan_of, paths_at, StandsAt}
 use Rattle.vx_column_machine.specs.Underway.{Wrote}
@@ -49,14 +52,19 @@ module _ (x : Course) (u : Active) (m : Machine) (exact : Exact u (machine_stock
   -- something is ready until it has finished
   pub some_ready : CourseIsReady → is_finished (machine_of m) ≡ false → 0 < machine_ready u m
   some_ready ready going = subst (λ n. 0 < n) (ready_held u m exact x.setting) (subst (λ z. 0 < ready_at z) (sym h.machine_is)
-      (ready (write_of x) first_batch (column_eof x.number) h.notes h.point (has_come x (machine_of m) to_come written paths h).come (can_begin x.number (length h.point.taken)) (ap is_finished (sym h.machine_is) ∙ going)))
+      (ready (write_of x) (onward first_batch) (column_eof x.number) h.notes h.point (has_come x (machine_of m) to_come written paths h).come (can_begin x.number (length h.point.taken)) (ap is_finished (sym h.machine_is) ∙ going)))
+
+  -- its pointer has a path for each batch
+  pub enough : CourseHasNames → (n : ℕ) → HasNames (machine_of m).phase n
+  enough names n = subst (λ (z : Plain). HasNames z.phase n) (sym h.machine_is)
+      (has_names _ h.point.machine.phase n (names (write_of x) (onward first_batch) (column_eof x.number) h.notes h.point (has_come x (machine_of m) to_come written paths h).come) (can_onward first_batch (length h.point.taken) n))
 
   -- a step that was done leads on
   pub led : (setting : Setting) (t : Ty) (now : Option (List ChunkData)) (written_now : ℕ) (kept kept_now : List (List ℕ)) (new : Machine) (s : Step)
       → StepsOn setting t 0 to_come now (outlet written kept) (outlet written_now kept_now) (machine_of m) (machine_of new) s → setting ≡ x.setting → t ≡ x.column.type
-      → LeadsOn (write_of x) first_batch (column_eof x.number) h.notes h.point to_come now (outlet written kept) (outlet written_now kept_now) (machine_of new) s
+      → LeadsOn (write_of x) (onward first_batch) (column_eof x.number) h.notes h.point to_come now (outlet written kept) (outlet written_now kept_now) (machine_of new) s
   led setting t now written_now kept kept_now new s on set typed =
-      on (write_of x) first_batch (column_eof x.number) h.notes h.point (sym set) (sym typed) (sym (none_picked (length h.notes)) ∙ pick_here (length h.notes) []) (has_come x (machine_of m) to_come written paths h)
+      on (write_of x) (onward first_batch) (column_eof x.number) h.notes h.point (sym set) (sym typed) (sym (none_picked (length h.notes)) ∙ pick_here (length h.notes) []) (has_come x (machine_of m) to_come written paths h)
 
   -- why a step was refused
   pub cause_of : CourseHasCause → CourseMisfitIsRead → CourseGoesOn → CourseIsFront → (ctx : LayoutWriterContext) (image : ℕ → ChunkData → ChunkData) (counts : ℕ) (t : Ty) (now : Option (List ChunkData)) (kept : List (List ℕ)) (e : WriteError)
@@ -71,7 +79,7 @@ module _ (x : Course) (u : Active) (m : Machine) (exact : Exact u (machine_stock
 
   -- ---- what it wrote
   module _ (now : Option (List ChunkData)) (written_now : ℕ) (kept kept_now : List (List ℕ)) (new : Machine) (s : Step)
-      (l : LeadsOn (write_of x) first_batch (column_eof x.number) h.notes h.point to_come now (outlet written kept) (outlet written_now kept_now) (machine_of new) s) (picked : s.picked ≡ 0 % s.ready)
+      (l : LeadsOn (write_of x) (onward first_batch) (column_eof x.number) h.notes h.point to_come now (outlet written kept) (outlet written_now kept_now) (machine_of new) s) (picked : s.picked ≡ 0 % s.ready)
       (none : kept ≡ []) (least : StepsWriteLeast) (vs : List (Vec ℕ)) (are : segments_in vs ≡ kept_now) where
     writes : WritesLeast (machine_ids (machine_of m)) l.goes.step.wrote
     writes = subst (λ z. WritesLeast (machine_ids z) l.goes.step.wrote) (sym h.machine_is)

@@ -3,7 +3,7 @@ use Rattle.std.specs.Prelude.{◌≡◌, ℕ, ◌+◌, ◌^◌, true, List, [], 
 use Rattle.vx_model.specs.ChunkData.{ChunkData}
 use Rattle.vx_tasks.specs.Run.{Note}
 use Rattle.vx_tasks.specs.Runs.{first_batch}
-use Rattle.vx_named_tasks.specs.Names.{Outset}
+use Rattle.vx_named_tasks.specs.Names.{onward, Outset}
 use Rattle.vx_plan.specs.PlanData.{Setting, Pair, Plan}
 use Rattle.vx_plan.specs.SourcePlan.{start_fault}
 use Rattle.vx_plan.specs.Valid.{OfSchema}
@@ -34,10 +34,10 @@ write_of x = record { setting = x.setting; way = x.column.way; type = x.column.t
 
 -- its batches are at [0, 0], [0, 1] and so on, and what is behind them goes on from the column's eof path
 abbrev pub outset_of : ℕ → Outset
-outset_of k = outset_from first_batch (column_eof k)
+outset_of k = outset_from (onward first_batch) (column_eof k)
 
 abbrev pub start_of : Course → Point
-start_of x = start_point (write_of x) first_batch (column_eof x.number)
+start_of x = start_point (write_of x) (onward first_batch) (column_eof x.number)
 
 -- what it writes
 abbrev pub plan_of : Course → Plan

@@ -31,7 +31,7 @@ use vx_write_answer::WriteError;
 /// A column of a struct that is written by itself. Its segments are handed out, with the paths at which the struct's node would
 /// write them; their numbers in its layout are places in the list of these paths.
 ///
-/// It must be spent, by `finish` or `refuse`.
+/// It must be spent, by `finish_with_paths` or `refuse`.
 pub struct ColumnMachine<B> {
     alloc: Global,
     column: u64,
@@ -165,7 +165,7 @@ impl<B: BatchSource + Drop> ColumnMachine<B> {
     }
 
     /// The layout, and the paths of its segments.
-    pub fn finish(self) -> (Layout, Vec<Path>)
+    pub fn finish_with_paths(self) -> (Layout, Vec<Path>)
         requires done { IsTrue (is_finished self.machine) × (has_finished (machine_of self.machine) ≡ true) }
         ensures done { (x : Course) → Underway B.to_come B.kind x self → IsDone (plan_of x) x.number (layout_data result.0) result.1.items }
         ensures paths { result.1.items ≡ self.paths.items }

@@ -58,7 +58,7 @@ pub(crate) fn steps<
     let mut raised: Option<Path> = None;
     'steps: for _ in rt.forever() {
         if machine.finished() {
-            return Ok(machine.finish());
+            return Ok(machine.finish_with_paths());
         }
         match turn(rt, sink, seat, &mut machine, &mut raised, compressor) {
             Ok(()) => book(rt, tracker, bytes, machine.held()),

@@ -1,6 +1,7 @@
 //! A case and its answer.
 
 use crate::jobs::{Parts, job_of};
+use crate::steps::Ids;
 use crate::{fails, reading, steps, trees, written};
 use std::alloc::Global;
 use vx_case_lines::{Answer, cut, halves};
@@ -16,7 +17,8 @@ pub fn tell_file(alloc: Global, answer: &mut Answer, name: &str, rest: &str) {
         "spelled" => written::tell_spelled(alloc, answer, given),
         "fails" => fails::tell(alloc, answer, given),
         "counted" => written::tell_counted(alloc, answer, given),
-        "stepped" => steps::tell(alloc, answer, given),
+        "stepped" => steps::tell(alloc, answer, given, Ids::Onward),
+        "handed" => steps::tell(alloc, answer, given, Ids::Handed),
         _ => answer.push_str("no such word"),
     }
     answer.push_str("\n");

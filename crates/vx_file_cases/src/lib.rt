@@ -14,6 +14,7 @@
 //! | `fails` | `source` or `sink`, and the number of its call that fails, from 0 | how a write of two batches ends, how many segments are in the sink, and how many batches are left in the source |
 //! | `counted` | bytes that are counted at first, the calls of source and sink that fail (`-`: none), a strategy, batches of integers | how the write ends, behind how many steps, and how many bytes are counted then |
 //! | `stepped` | a strategy, batches of integers | of a write whose machine is stepped by hand, how many steps it took, and how many rows and segments are written |
+//! | `handed` | a strategy, batches of integers | the same of one whose batches get ids that were made before its start |
 //!
 //! Cases of bytes:
 //!

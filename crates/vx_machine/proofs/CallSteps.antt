@@ -109,19 +109,19 @@ none_fewer n a e = omega arith
 
 -- behind the source's own place
 pub reads_behind : (p : Phase) (root : Tasks) (k j : ℕ) → k ≡ one_if (may_source p root) + j → reads_at p k ≡ false
-reads_behind (reading e) root k j is =
+reads_behind (reading ns) root k j is =
     let next : k ≡ suc j = omega (arith, is) in
-    subst (λ z. reads_at (reading e) z ≡ false) (sym next) refl
-reads_behind (giving e i) root k j is = refl
+    subst (λ z. reads_at (reading ns) z ≡ false) (sym next) refl
+reads_behind (giving ns i) root k j is = refl
 reads_behind closing root k j is = refl
 reads_behind finished root k j is = refl
 
 -- no act of the source appends
 step_appends : (a : Answer) (p : Phase) (root : Tasks) → append_action (action_of (source_step a p root).kind) ≡ 0
-step_appends (came b) (reading e) root = refl
-step_appends over (reading e) root = refl
-step_appends unasked (reading e) root = refl
-step_appends a (giving e i) root = refl
+step_appends (came b) (reading ns) root = refl
+step_appends over (reading ns) root = refl
+step_appends unasked (reading ns) root = refl
+step_appends a (giving ns i) root = refl
 step_appends a closing root = refl
 step_appends a finished root = refl
 
@@ -139,10 +139,10 @@ module _ (n : ℕ) (may must : ℕ → Type 0) where
   none_pressed x is = subst (λ z. CalledTimes n n may may must must z) (sym is) (unasked_self n may must)
 
 step_calls : (a : Answer) (p : Phase) (root : Tasks) → call_action (action_of (source_step a p root).kind) ≡ 0
-step_calls (came b) (reading e) root = refl
-step_calls over (reading e) root = refl
-step_calls unasked (reading e) root = refl
-step_calls a (giving e i) root = refl
+step_calls (came b) (reading ns) root = refl
+step_calls over (reading ns) root = refl
+step_calls unasked (reading ns) root = refl
+step_calls a (giving ns i) root = refl
 step_calls a closing root = refl
 step_calls a finished root = refl
 

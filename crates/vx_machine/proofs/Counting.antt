@@ -27,10 +27,10 @@ shut_below no_tasks = refl
 shut_below (task_then c ks r) = refl
 
 source_below : (told : Answer) (p : whole.Phase) (root : Tasks) → below (whole.source_step told p root).after.root ≡ below root
-source_below unasked (whole.reading e) root = refl
-source_below (came b) (whole.reading e) root = refl
-source_below over (whole.reading e) root = refl
-source_below told (whole.giving e i) root = give_below i root
+source_below unasked (whole.reading ns) root = refl
+source_below (came b) (whole.reading ns) root = refl
+source_below over (whole.reading ns) root = refl
+source_below told (whole.giving ns i) root = give_below i root
 source_below told whole.closing root = shut_below root
 source_below told whole.finished root = refl
 

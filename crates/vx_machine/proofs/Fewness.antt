@@ -133,10 +133,10 @@ module _ (s : Setting) (next : ℕ) where
       by (inr b) deeper others = of_rest (from_map (in_rest c ks) w (steps s all next r) b) others
 
 source_few : (a : Answer) (p : Phase) (root : Tasks) → Few (source_step a p root).wrote (source_step a p root).refusal
-source_few unasked (reading e) root = inl refl
-source_few (came b) (reading e) root = inl refl
-source_few over (reading e) root = inl refl
-source_few a (giving e i) root = inl refl
+source_few unasked (reading ns) root = inl refl
+source_few (came b) (reading ns) root = inl refl
+source_few over (reading ns) root = inl refl
+source_few a (giving ns i) root = inl refl
 source_few a closing root = inl refl
 source_few a finished root = inl refl
 

@@ -12,14 +12,14 @@ use Rattle.vx_machine_task.proofs.Finishing.{done_none, done_unreserved}
 
 closed_none : (p : Phase) → has_closed p ≡ true → phase_stock p ≡ none
 closed_none Finished h = refl
-closed_none (Reading e) h = absurd (true≢false (sym h))
-closed_none (Giving e i) h = absurd (true≢false (sym h))
+closed_none (Reading ns) h = absurd (true≢false (sym h))
+closed_none (Giving ns i) h = absurd (true≢false (sym h))
 closed_none Closing h = refl
 
 pub closed_is : (p : Phase) → has_closed p ≡ true → p ≡ Finished
 closed_is Finished h = refl
-closed_is (Reading e) h = absurd (true≢false (sym h))
-closed_is (Giving e i) h = absurd (true≢false (sym h))
+closed_is (Reading ns) h = absurd (true≢false (sym h))
+closed_is (Giving ns i) h = absurd (true≢false (sym h))
 closed_is Closing h = absurd (true≢false (sym h))
 
 pub finished_parts : (m : Machine) → is_finished m ≡ true → (has_closed m.phase ≡ true) × (is_done m.root ≡ true)

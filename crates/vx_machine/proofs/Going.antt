@@ -1,8 +1,7 @@
 -- A step that was done over a sink that nobody else uses, of the machine to which steps have led.
-use Rattle.std.proofs.Common.{◌≡◌, ◌+◌, ◌∷◌, ◌++◌, ◌∙◌, ℕ, zero, suc, Bool, List, length, refl, sym, ap, subst, inl, inr, Option, Some, slice_index, []}
+use Rattle.std.proofs.Common.{◌≡◌, ◌+◌, ◌∷◌, ◌++◌, ◌∙◌, ℕ, zero, suc, List, length, refl, sym, ap, subst, inl, inr, Option, Some, slice_index, []}
 use Rattle.vx_model.specs.Ty.{Ty}
 use Rattle.vx_model.specs.ChunkData.{ChunkData}
-use Rattle.vx_path.specs.Path.{Eof}
 use Rattle.vx_tasks.specs.Run.{Note, nth, first_pick, later_picks}
 use Rattle.vx_tasks.specs.Runs.{noted}
 use Rattle.vx_plan.specs.PlanData.{Pair}
@@ -45,9 +44,9 @@ led_more g first x y z (m ∷ ns) n l d = (l.0, l.1, led_more g first l.0 y z ns
 -- ---- a step that was done, of the machine to which steps have led
 
 pub asking : (p : Phase) (k : ℕ) (a : Answer) → AsksAt p k a → Asking p k a
-asking (reading e) zero a h = h
-asking (reading e) (suc k) a h = h
-asking (giving e i) k a h = h
+asking (reading ns) zero a h = h
+asking (reading ns) (suc k) a h = h
+asking (giving ns i) k a h = h
 asking closing k a h = h
 asking finished k a h = h
 

@@ -11,7 +11,7 @@ use Rattle.vx_sequence.proofs.Sets.{same_refl, same_true}
 use Rattle.vx_plan.specs.PlanData.{Setting}
 use Rattle.vx_regroup.specs.declared.regroup.Regroup.{Regroup}
 use Rattle.vx_regroup.specs.declared.regroup.Regroup.TheVariants.{Repartition, Buffered, Collect}
-use Rattle.vx_machine_ids.specs.Stock.{Stock, held, both, same, one, some_stock}
+use Rattle.vx_machine_ids.specs.Stock.{Stock, held, both, same, one, some_stock, ids_stock}
 use Rattle.vx_machine_ids.specs.Balance.{active_at, Exact, Moved}
 use Rattle.vx_machine_turns.specs.Dict.{rest_eof}
 use Rattle.vx_machine_promises.specs.Write.{Answer}
@@ -23,6 +23,10 @@ use Rattle.vx_machine_node.specs.declared.item.Due.{Due}
 use Rattle.vx_machine_node.specs.declared.item.Due.TheVariants.{Put, HandOn, Append, Close, Join, Table, Leave, Press, Ask, OpenRun, EndRun}
 use Rattle.vx_machine_node.specs.declared.node.Local.{Local}
 use Rattle.vx_machine_node.specs.declared.node.Local.TheVariants.{Empty, Full, Chunked, Columns, Lists, Grouped, Over, Passing, Made, Zoned, Pressing, AsIs, Probe, Asking, Runs}
+use Rattle.vx_named_tasks.specs.Names as plain
+use Rattle.vx_machine.specs.declared.names.Names.{Names}
+use Rattle.vx_machine.specs.declared.names.Names.TheVariants.{Onward, Handed}
+use Rattle.vx_machine.specs.Names.{names_stock, names_of}
 use Rattle.vx_machine.specs.declared.source.Phase.{Phase}
 use Rattle.vx_machine.specs.declared.source.Phase.TheVariants.{Reading, Giving, Closing, Finished}
 use Rattle.vx_machine.specs.declared.machine.Machine.{Machine}
@@ -131,9 +135,17 @@ mind_held p Over = refl
 mind_held p Passing = refl
 mind_held p (Made l) = refl
 
+ids_held : (p : List ℕ) (ids : List (List ℕ)) → count p ids ≡ held (ids_stock ids) p
+ids_held p [] = refl
+ids_held p (q ∷ ids) = let e : count p ids ≡ held (ids_stock ids) p = ids_held p ids in omega (arith, e)
+
+names_held : (p : List ℕ) (ns : Names) → count p (plain.held_names (names_of ns)) ≡ held (names_stock ns) p
+names_held p (Onward e) = omega arith
+names_held p (Handed ids) = ids_held p ids.items
+
 phase_held : (p : List ℕ) (x : Phase) → count p (whole.phase_ids (phase_of x)) ≡ held (phase_stock x) p
-phase_held p (Reading e) = omega arith
-phase_held p (Giving e i) = omega arith
+phase_held p (Reading ns) = names_held p ns
+phase_held p (Giving ns i) = let e : count p (plain.held_names (names_of ns)) ≡ held (names_stock ns) p = names_held p ns in omega (arith, e)
 phase_held p Closing = refl
 phase_held p Finished = refl
 

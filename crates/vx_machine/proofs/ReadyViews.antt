@@ -21,8 +21,8 @@ use Rattle.vx_machine_task.proofs.ReadyViews.{done_view, none_before, one_same, 
 -- ---- the whole machine
 
 source_view : (p : Phase) (t : Task) → may_source p t ≡ whole.may_source (phase_of p) (task_row t no_tasks)
-source_view (Reading e) t = refl
-source_view (Giving e i) t = room_view zero (t ∷ [])
+source_view (Reading ns) t = refl
+source_view (Giving ns i) t = room_view zero (t ∷ [])
 source_view Closing t = refl
 source_view Finished t = refl
 
@@ -46,8 +46,8 @@ machine_view u m =
 -- ---- the end
 
 closed_view : (p : Phase) → has_closed p ≡ whole.has_closed (phase_of p)
-closed_view (Reading e) = refl
-closed_view (Giving e i) = refl
+closed_view (Reading ns) = refl
+closed_view (Giving ns i) = refl
 closed_view Closing = refl
 closed_view Finished = refl
 

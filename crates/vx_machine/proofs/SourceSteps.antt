@@ -4,6 +4,7 @@ use Rattle.std.proofs.lemmas.Result.{IfOk-weaker, IfErr-weaker}
 use Rattle.vx_model.specs.Ty.{Ty}
 use Rattle.vx_model.specs.ChunkData.{ChunkData, piece_type}
 use Rattle.vx_path.specs.Path.{Eof, eof_path, next}
+use Rattle.vx_named_tasks.specs.Names.{Names, onward, handed}
 use Rattle.vx_layout_spec.specs.Real.{Whole}
 use Rattle.vx_fault.specs.Told.{NoneTold}
 use Rattle.vx_order_answer.specs.declared.errors.OrderError.{OrderError}
@@ -61,7 +62,9 @@ full_cause last (order.Stopped by name) h = absurd h
 module _ (t : Ty) (before now : Option (List ChunkData)) where
   -- ---- a read
 
-  pub gives : (e d : Eof) (id : List ℕ) (b : ChunkData) → before ≡ option_map (λ cs. b ∷ cs) now → piece_type b ≡ t → Whole b → id ≡ eof_path e → d ≡ next e → e.last + 1 < 2 ^ 64 → ReadActed t before now e (giving d (id, b)) Batch
+  -- a batch, whose path is the pointer's
+  pub gives : (e d : Eof) (id : List ℕ) (b : ChunkData) → before ≡ option_map (λ cs. b ∷ cs) now → piece_type b ≡ t → Whole b → id ≡ eof_path e → d ≡ next e → e.last + 1 < 2 ^ 64
+      → ReadActed t before now (onward e) (giving (onward d) (id, b)) Batch
   gives e d id b r y h i n f = λ root. record {
     told = came b;
     asks = tt;
@@ -69,40 +72,53 @@ module _ (t : Ty) (before now : Option (List ChunkData)) where
     kind = refl;
     fits = refl;
     counted = one_fits (e.last + 1) f;
-    left = λ j. whole_at (giving (n j) (i j, b)) root;
+    left = λ j. whole_at (giving (onward (n j)) (i j, b)) root;
   }
 
-  pub ends : (e : Eof) → (now ≡ before) × NoneTold now → ReadActed t before now e closing End
-  ends e h = λ root. record { told = over; asks = tt; tells = h; kind = refl; fits = refl; counted = none_fit; left = refl }
+  -- or the first of the ids
+  pub hands : (all ids : List (List ℕ)) (id : List ℕ) (b : ChunkData) → before ≡ option_map (λ cs. b ∷ cs) now → piece_type b ≡ t → Whole b → all ≡ id ∷ ids
+      → ReadActed t before now (handed all) (giving (handed ids) (id, b)) Batch
+  hands all ids id b r y h is = subst (λ z. ReadActed t before now (handed z) (giving (handed ids) (id, b)) Batch) (sym is) (λ root. record {
+    told = came b;
+    asks = tt;
+    tells = (r, record { typed = y; whole = h });
+    kind = refl;
+    fits = refl;
+    counted = none_fit;
+    left = refl;
+  })
 
-  pub refuses : (e : Eof) (error : WriteError) → ReadsNone before now error → SourceMay t error → NoNumber error → ReadRefused t before now e error
-  refuses e error r m k = λ root. record { told = unasked; asks = tt; tells = (r, m, k); cause = read_cause t error m k }
+  pub ends : (ns : Names) → (now ≡ before) × NoneTold now → ReadActed t before now ns closing End
+  ends ns h = λ root. record { told = over; asks = tt; tells = h; kind = refl; fits = refl; counted = none_fit; left = refl }
 
-  pub full : (e : Eof) (b : ChunkData) (x : OrderError) → before ≡ option_map (λ cs. b ∷ cs) now → piece_type b ≡ t → Whole b → FullAt e.last x → IsLate (of_order x) → ReadRefused t before now e (of_order x)
+  pub refuses : (ns : Names) (error : WriteError) → ReadsNone before now error → SourceMay t error → NoNumber error → ReadRefused t before now ns error
+  refuses ns error r m k = λ root. record { told = unasked; asks = tt; tells = (r, m, k); cause = read_cause t error m k }
+
+  pub full : (e : Eof) (b : ChunkData) (x : OrderError) → before ≡ option_map (λ cs. b ∷ cs) now → piece_type b ≡ t → Whole b → FullAt e.last x → IsLate (of_order x) → ReadRefused t before now (onward e) (of_order x)
   full e b x r y h f l = λ root. record { told = came b; asks = tt; tells = (l, r, record { typed = y; whole = h }); cause = full_cause e.last x f }
 
   -- ---- the next act
 
-  pub read_done : (e : Eof) (phase later : Phase) (root : Tasks) (r : Result ActionKind WriteError) → phase ≡ reading e → IfOk r (ReadActed t before now e later) → IfOk r (SourceActed t before now phase later root root)
-  read_done e phase later root r is h =
+  pub read_done : (ns : Names) (phase later : Phase) (root : Tasks) (r : Result ActionKind WriteError) → phase ≡ reading ns → IfOk r (ReadActed t before now ns later) → IfOk r (SourceActed t before now phase later root root)
+  read_done ns phase later root r is h =
       subst (λ p. IfOk r (SourceActed t before now p later root root)) (sym is)
-      (IfOk-weaker r (ReadActed t before now e later) (SourceActed t before now (reading e) later root root) (λ a k. k root) h)
+      (IfOk-weaker r (ReadActed t before now ns later) (SourceActed t before now (reading ns) later root root) (λ a k. k root) h)
 
-  pub read_refused : (e : Eof) (phase : Phase) (root : Tasks) (r : Result ActionKind WriteError) → phase ≡ reading e → IfErr r (ReadRefused t before now e) → IfErr r (SourceRefused t before now phase root)
-  read_refused e phase root r is h =
+  pub read_refused : (ns : Names) (phase : Phase) (root : Tasks) (r : Result ActionKind WriteError) → phase ≡ reading ns → IfErr r (ReadRefused t before now ns) → IfErr r (SourceRefused t before now phase root)
+  read_refused ns phase root r is h =
       subst (λ p. IfErr r (SourceRefused t before now p root)) (sym is)
-      (IfErr-weaker r (ReadRefused t before now e) (SourceRefused t before now (reading e) root) (λ a k. k root) h)
+      (IfErr-weaker r (ReadRefused t before now ns) (SourceRefused t before now (reading ns) root) (λ a k. k root) h)
 
 module _ (t : Ty) (told : Option (List ChunkData)) where
-  pub put_done : (e : Eof) (i : Piece) (phase : Phase) (x : Task) (new : Tasks) → phase ≡ giving e i → new ≡ task_then (with_item (desk_of (out-Task x).head) i) (row (out-Task x).kids.items) no_tasks
-      → SourceActed t told told phase (reading e) (task_row x no_tasks) new Put
-  put_done e i phase x new is h =
+  pub put_done : (ns : Names) (i : Piece) (phase : Phase) (x : Task) (new : Tasks) → phase ≡ giving ns i → new ≡ task_then (with_item (desk_of (out-Task x).head) i) (row (out-Task x).kids.items) no_tasks
+      → SourceActed t told told phase (reading ns) (task_row x no_tasks) new Put
+  put_done ns i phase x new is h =
       let l : new ≡ give 0 i (task_row x no_tasks) = h ∙ sym (ap (give 0 i) (row_out x no_tasks)) in
-      subst (λ p. SourceActed t told told p (reading e) (task_row x no_tasks) new Put) (sym is)
-      (record { told = unasked; asks = refl; tells = refl; kind = refl; fits = refl; counted = none_fit; left = λ j. whole_at (reading e) (l j) })
+      subst (λ p. SourceActed t told told p (reading ns) (task_row x no_tasks) new Put) (sym is)
+      (record { told = unasked; asks = refl; tells = refl; kind = refl; fits = refl; counted = none_fit; left = λ j. whole_at (reading ns) (l j) })
 
-  pub put_refused : (e : Eof) (i : Piece) (phase : Phase) (root : Tasks) → phase ≡ giving e i → SourceRefused t told told phase root OutOfMemory
-  put_refused e i phase root is = subst (λ p. SourceRefused t told told p root OutOfMemory) (sym is) (record { told = unasked; asks = refl; tells = (refl, tt); cause = tt })
+  pub put_refused : (ns : Names) (i : Piece) (phase : Phase) (root : Tasks) → phase ≡ giving ns i → SourceRefused t told told phase root OutOfMemory
+  put_refused ns i phase root is = subst (λ p. SourceRefused t told told p root OutOfMemory) (sym is) (record { told = unasked; asks = refl; tells = (refl, tt); cause = tt })
 
   pub close_done : (phase : Phase) (x : Task) (new : Tasks) → phase ≡ closing → new ≡ task_then (shut_desk (desk_of (out-Task x).head)) (row (out-Task x).kids.items) no_tasks
       → SourceActed t told told phase finished (task_row x no_tasks) new Close

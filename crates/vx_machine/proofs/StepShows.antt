@@ -25,23 +25,23 @@ use Rattle.vx_machine_nodes.proofs.RefusalSteps.{wider}
 use Rattle.vx_machine.proofs.ActCauses.{source_uncalled}
 
 pub asks_not : (p : whole.Phase) (k : ℕ) → AsksAt p k unasked
-asks_not (whole.reading e) zero = tt
-asks_not (whole.reading e) (suc k) = refl
-asks_not (whole.giving e i) k = refl
+asks_not (whole.reading ns) zero = tt
+asks_not (whole.reading ns) (suc k) = refl
+asks_not (whole.giving ns i) k = refl
 asks_not whole.closing k = refl
 asks_not whole.finished k = refl
 
 tells_none : (p : whole.Phase) (root : Tasks) (k j : ℕ) (t : Ty) (before now : Option (List ChunkData)) (e : WriteError) → k ≡ one_if (whole.may_source p root) + j → now ≡ before → IsElsewhere e → TellsNothing p k t before now e
-tells_none (whole.reading d) root zero j t before now e is h n = absurd (omega (arith, is))
-tells_none (whole.reading d) root (suc k) j t before now e is h n = (h, n)
-tells_none (whole.giving d i) root k j t before now e is h n = (h, n)
+tells_none (whole.reading ns) root zero j t before now e is h n = absurd (omega (arith, is))
+tells_none (whole.reading ns) root (suc k) j t before now e is h n = (h, n)
+tells_none (whole.giving ns i) root k j t before now e is h n = (h, n)
 tells_none whole.closing root k j t before now e is h n = (h, n)
 tells_none whole.finished root k j t before now e is h n = (h, n)
 
 pub tells_memory : (p : whole.Phase) (k : ℕ) (t : Ty) (before now : Option (List ChunkData)) → now ≡ before → TellsNothing p k t before now OutOfMemory
-tells_memory (whole.reading d) zero t before now h = (h, tt, tt)
-tells_memory (whole.reading d) (suc k) t before now h = (h, tt)
-tells_memory (whole.giving d i) k t before now h = (h, tt)
+tells_memory (whole.reading ns) zero t before now h = (h, tt, tt)
+tells_memory (whole.reading ns) (suc k) t before now h = (h, tt)
+tells_memory (whole.giving ns i) k t before now h = (h, tt)
 tells_memory whole.closing k t before now h = (h, tt)
 tells_memory whole.finished k t before now h = (h, tt)
 
@@ -56,10 +56,10 @@ record Fixed (w : whole.WholeStep) : Type 0 where
   silent : w.wrote ≡ []
 
 fixed : (told : Answer) (p : whole.Phase) (root : Tasks) → Fixed (whole.source_step told p root)
-fixed unasked (whole.reading e) root = record { name_is = refl; unrefused = refl; silent = refl }
-fixed (came b) (whole.reading e) root = record { name_is = refl; unrefused = refl; silent = refl }
-fixed over (whole.reading e) root = record { name_is = refl; unrefused = refl; silent = refl }
-fixed told (whole.giving e i) root = record { name_is = refl; unrefused = refl; silent = refl }
+fixed unasked (whole.reading ns) root = record { name_is = refl; unrefused = refl; silent = refl }
+fixed (came b) (whole.reading ns) root = record { name_is = refl; unrefused = refl; silent = refl }
+fixed over (whole.reading ns) root = record { name_is = refl; unrefused = refl; silent = refl }
+fixed told (whole.giving ns i) root = record { name_is = refl; unrefused = refl; silent = refl }
 fixed told whole.closing root = record { name_is = refl; unrefused = refl; silent = refl }
 fixed told whole.finished root = record { name_is = refl; unrefused = refl; silent = refl }
 

@@ -40,9 +40,9 @@ LeavesFewer before now a = now ≤ before
 
 -- whether the source reads at this place
 abbrev pub reads_at : Phase → ℕ → Bool
-reads_at (reading e) zero = true
-reads_at (reading e) (suc k) = false
-reads_at (giving e i) k = false
+reads_at (reading ns) zero = true
+reads_at (reading ns) (suc k) = false
+reads_at (giving ns i) k = false
 reads_at closing k = false
 reads_at finished k = false
 

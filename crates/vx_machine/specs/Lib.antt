@@ -1,4 +1,5 @@
 pub mod Calls
+pub mod Names
 pub mod Source
 pub mod Whole
 pub mod View

@@ -4,16 +4,17 @@ use Rattle.vx_model.specs.Ty.{Ty}
 use Rattle.vx_model.specs.ChunkData.{ChunkData, piece_type}
 use Rattle.vx_layout_spec.specs.Real.{Whole}
 use Rattle.vx_fault.specs.Told.{NoneTold}
-use Rattle.vx_machine_ids.specs.Stock.{Stock, none, both, end_stock}
+use Rattle.vx_machine_ids.specs.Stock.{Stock, none, both}
 use Rattle.vx_write_answer.specs.declared.error.WriteError.{WriteError}
 use Rattle.vx_write_answer.specs.declared.error.WriteError.TheVariants.{SourceFault, SinkFault, CompressFault, BatchType, NotStruct, DuplicateField, ManyChunks, EmptyList, ZoneCut, ForbiddenAggregate, ForbiddenEncoding, TooLarge, OutOfMemory, Stopped}
 use Rattle.vx_machine.specs.declared.source.Phase.{Phase}
 use Rattle.vx_machine.specs.declared.source.Phase.TheVariants.{Reading, Giving, Closing, Finished}
 use Rattle.vx_machine_node.specs.Stocks.{item_stock}
+use Rattle.vx_machine.specs.Names.{names_stock}
 
 abbrev pub phase_stock : Phase → Stock
-phase_stock (Reading e) = end_stock e
-phase_stock (Giving e i) = both (end_stock e) (item_stock i)
+phase_stock (Reading ns) = names_stock ns
+phase_stock (Giving ns i) = both (names_stock ns) (item_stock i)
 phase_stock Closing = none
 phase_stock Finished = none
 

@@ -2,7 +2,7 @@
 use Rattle.std.specs.Prelude.{◌≡◌, ℕ, zero, suc, false, List, ◌∷◌, ◌++◌, Option, option_map}
 use Rattle.vx_model.specs.Ty.{Ty}
 use Rattle.vx_model.specs.ChunkData.{ChunkData}
-use Rattle.vx_path.specs.Path.{Eof}
+use Rattle.vx_named_tasks.specs.Names.{Names}
 use Rattle.vx_layout_spec.specs.Real.{Of}
 use Rattle.vx_fault.specs.Told.{NoneTold}
 use Rattle.vx_write_answer.specs.declared.step.ActionKind.{ActionKind}
@@ -34,9 +34,9 @@ IsElsewhere e = Unit {0}
 -- large. It fails nowhere else. Behind its end nothing is refused.
 
 abbrev pub TellsNothing : Phase → ℕ → Ty → Option (List ChunkData) → Option (List ChunkData) → WriteError → Type 0
-TellsNothing (reading e) zero t before now error = ReadsNone before now error × SourceMay t error × NoNumber error
-TellsNothing (reading e) (suc k) t before now error = (now ≡ before) × IsElsewhere error
-TellsNothing (giving e i) k t before now error = (now ≡ before) × IsElsewhere error
+TellsNothing (reading ns) zero t before now error = ReadsNone before now error × SourceMay t error × NoNumber error
+TellsNothing (reading ns) (suc k) t before now error = (now ≡ before) × IsElsewhere error
+TellsNothing (giving ns i) k t before now error = (now ≡ before) × IsElsewhere error
 TellsNothing closing k t before now error = (now ≡ before) × IsElsewhere error
 TellsNothing finished k t before now error = (now ≡ before) × IsElsewhere error
 
@@ -47,9 +47,9 @@ TellsRefused p k t before now e over = ⊥
 
 -- it is asked only where it reads, in the first place
 abbrev pub AsksAt : Phase → ℕ → Answer → Type 0
-AsksAt (reading e) zero a = Unit {0}
-AsksAt (reading e) (suc k) a = a ≡ unasked
-AsksAt (giving e i) k a = a ≡ unasked
+AsksAt (reading ns) zero a = Unit {0}
+AsksAt (reading ns) (suc k) a = a ≡ unasked
+AsksAt (giving ns i) k a = a ≡ unasked
 AsksAt closing k a = a ≡ unasked
 AsksAt finished k a = a ≡ unasked
 
@@ -66,9 +66,9 @@ pub record SourceActed (t : Ty) (before now : Option (List ChunkData)) (phase la
   pub counted : AllFit ((source_step told phase root).numbers ++ (source_step told phase root).indices)
   pub left : whole_at later new ≡ (source_step told phase root).after
 
--- of one that reads the batch of a path: whatever the root is
-abbrev pub ReadActed : Ty → Option (List ChunkData) → Option (List ChunkData) → Eof → Phase → ActionKind → Type 0
-ReadActed t before now e later a = (root : Tasks) → SourceActed t before now (reading e) later root root a
+-- of one that reads a batch, whose path is the first of these: whatever the root is
+abbrev pub ReadActed : Ty → Option (List ChunkData) → Option (List ChunkData) → Names → Phase → ActionKind → Type 0
+ReadActed t before now ns later a = (root : Tasks) → SourceActed t before now (reading ns) later root root a
 
 -- it was refused
 pub record SourceRefused (t : Ty) (before now : Option (List ChunkData)) (phase : Phase) (root : Tasks) (e : WriteError) : Type 0 where
@@ -78,5 +78,5 @@ pub record SourceRefused (t : Ty) (before now : Option (List ChunkData)) (phase 
   pub cause : Refused (source_step told phase root).refusal (source_step told phase root).misfit (source_step told phase root).numbers (source_step told phase root).indices (source_step told phase root).wrote none_past ⊥
       (source_step told phase root).joined e
 
-abbrev pub ReadRefused : Ty → Option (List ChunkData) → Option (List ChunkData) → Eof → WriteError → Type 0
-ReadRefused t before now e error = (root : Tasks) → SourceRefused t before now (reading e) root error
+abbrev pub ReadRefused : Ty → Option (List ChunkData) → Option (List ChunkData) → Names → WriteError → Type 0
+ReadRefused t before now ns error = (root : Tasks) → SourceRefused t before now (reading ns) root error

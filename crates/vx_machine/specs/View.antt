@@ -6,10 +6,11 @@ use Rattle.vx_machine.specs.declared.source.Phase.TheVariants.{Reading, Giving, 
 use Rattle.vx_machine.specs.declared.machine.Machine.{Machine}
 use Rattle.vx_machine_node.specs.View.{item_of}
 use Rattle.vx_machine_task.specs.View.{task_row}
+use Rattle.vx_machine.specs.Names.{names_of}
 
 abbrev pub phase_of : Phase → whole.Phase
-phase_of (Reading e) = whole.reading e
-phase_of (Giving e i) = whole.giving e (item_of i)
+phase_of (Reading ns) = whole.reading (names_of ns)
+phase_of (Giving ns i) = whole.giving (names_of ns) (item_of i)
 phase_of Closing = whole.closing
 phase_of Finished = whole.finished
 

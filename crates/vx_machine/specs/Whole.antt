@@ -22,8 +22,8 @@ abbrev pub machine_reserved : Machine → ℕ
 machine_reserved m = task_reserved m.root
 
 abbrev pub may_source : Phase → Task → Bool
-may_source (Reading e) root = true
-may_source (Giving e i) root = (kid_of root).room
+may_source (Reading ns) root = true
+may_source (Giving ns i) root = (kid_of root).room
 may_source Closing root = true
 may_source Finished root = false
 
@@ -33,8 +33,8 @@ machine_ready u m = one (may_source m.phase m.root) + ready_in u m.root
 
 abbrev pub has_closed : Phase → Bool
 has_closed Finished = true
-has_closed (Reading e) = false
-has_closed (Giving e i) = false
+has_closed (Reading ns) = false
+has_closed (Giving ns i) = false
 has_closed Closing = false
 
 -- the source has closed the root's queue, and the root has its layout

@@ -3,6 +3,7 @@
 #![tactic(auto)]
 
 mod machine;
+mod names;
 mod running;
 mod source;
 mod stepping;

@@ -6,8 +6,9 @@ ghost use Rattle.vx_machine_ids.specs.Stock.{none, both};
 ghost use Rattle.vx_machine_ids.specs.Balance.{Owned, Moved, Exact};
 ghost use Rattle.vx_write_answer.specs.Causes.{errs, is_source_fault, is_sink_fault, is_compress_fault};
 ghost use Rattle.vx_machine.specs.Calls.{reads_in, appends_in, calls_in};
+ghost use Rattle.vx_machine.specs.Names.{HasNames};
 ghost use Rattle.vx_machine.specs.Run.{at, RunDone, RunTold};
-ghost use Rattle.vx_machine.specs.View.{machine_of};
+ghost use Rattle.vx_machine.specs.View.{phase_of, machine_of};
 ghost use Rattle.vx_sink.specs.ContextView.{counted};
 ghost use Rattle.vx_machine_node.specs.Ledger.{told_by};
 ghost use Rattle.vx_machine.specs.Whole.{machine_stock, machine_reserved, StepMay};
@@ -47,6 +48,7 @@ pub fn run<B: BatchSource, O: Order, C: CompressorPlugin>(
     requires owned { Owned (O.active order.old) (machine_stock machine) }
     requires unreserved { machine_reserved machine ≡ 0 }
     requires allowed { (o : O) (p b : List ℕ) → O.may_write o p b }
+    requires enough { HasNames (phase_of machine.phase) (B.left source.old) }
     ensures moved { Moved (O.active order.old) (O.active order.new) (machine_stock machine) none }
     ensures kind { B.kind source.new ≡ B.kind source.old }
     ensures source { trace.old.items ≡ [] → FaultsTold (B.faults source.old) (B.faults source.new) (B.may_fail source.old) (B.must_fail source.old)

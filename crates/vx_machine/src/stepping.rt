@@ -4,9 +4,10 @@ ghost use Rattle.std.specs.Prelude.{◌≡◌, ◌+◌, ◌<◌, ◌≤◌, ◌%
 ghost use Rattle.std.specs.FinMap as fin;
 ghost use Rattle.std.specs.Arc.{arc_value};
 ghost use Rattle.vx_model.specs.TyView.{ty};
+ghost use Rattle.vx_named_tasks.specs.Names.{onward, handed};
 ghost use Rattle.vx_kept.specs.Kept.{Fresh, Knows};
 ghost use Rattle.vx_layout_tree.specs.LayoutView.{layout_data};
-ghost use Rattle.vx_machine_ids.specs.Stock.{none, both, end_stock, ok_stock, one as one_if};
+ghost use Rattle.vx_machine_ids.specs.Stock.{none, both, end_stock, ids_stock, ok_stock, one as one_if};
 ghost use Rattle.vx_machine_ids.specs.Balance.{Owned, Moved, Exact, IsNone};
 ghost use Rattle.vx_machine_state.specs.State.{no_tasks};
 ghost use Rattle.vx_machine_state.specs.Start.{first_indices};
@@ -23,6 +24,7 @@ ghost use Rattle.vx_machine_node.specs.Context.{setting_of};
 ghost use Rattle.vx_machine_node.specs.Outcome.{Kept};
 ghost use Rattle.vx_machine_tasks.specs.Pairs.{task_pairs, AllMay};
 ghost use Rattle.vx_machine_task.specs.Ready.{is_done as is_done_task, counted, ready_in};
+ghost use Rattle.vx_machine.specs.Names.{names_stock, names_of, HasNames};
 ghost use Rattle.vx_machine.specs.Source.{SourceMay, phase_stock};
 ghost use Rattle.vx_machine.specs.SourceActs.{SourceActed, SourceRefused};
 ghost use Rattle.vx_machine_tasks.specs.Starting.{IsAllowed, Counted, Started, FormRefused};
@@ -37,8 +39,10 @@ ghost use Rattle.vx_machine_task.specs.declared.task.Task.{out-Task};
 ghost use Rattle.vx_machine.specs.Whole.{machine_stock, machine_reserved, machine_ready, may_source as may_act, has_closed as is_closed, is_finished, StepMay};
 
 use crate::machine::Machine;
+use crate::names::{Names, give_up_names};
 use crate::source::{Phase, act_source, give_up_phase};
 use std::alloc::{AllocError, Global};
+use std::collections::VecDeque;
 use std::mem;
 use std::sync::Arc;
 use vx_kept::Counts;
@@ -49,7 +53,7 @@ use vx_machine_tasks::{start_task, step};
 use vx_model::DType;
 use vx_order::Order;
 use vx_path::owned::Path;
-use vx_sequence::SequencePointer;
+use vx_sequence::{SequenceId, SequencePointer};
 use vx_sink::{BatchSource, CompressorPlugin, LayoutWriterContext};
 use vx_strategy::Strategy;
 use vx_write_answer::{ActionKind, Step, WriteError};
@@ -151,6 +155,41 @@ fn set_phase(phase: &mut Phase, new: Phase)
 }
 
 impl Machine {
+    fn start_from<O: Order>(
+        alloc: Global,
+        strategy: &Strategy,
+        dtype: &DType,
+        ctx: &LayoutWriterContext,
+        order: &mut O,
+        names: Names,
+        eof: SequencePointer,
+    ) -> Result<Machine, WriteError>
+        requires { Owned (O.active order.old) (both (names_stock names) (end_stock eof)) }
+        ensures moved { Moved (O.active order.old) (O.active order.new) (both (names_stock names) (end_stock eof)) (ok_stock machine_stock result) }
+        ensures unreserved { IfOk result (λ m. machine_reserved m ≡ 0) }
+        ensures outlet { O.outlet order.new ≡ O.outlet order.old }
+        ensures sink { O.sink order.new ≡ O.sink order.old }
+        ensures cause { IfErr result StartMay }
+        ensures allowed { OnOk result (IsAllowed (allowed_in ctx.now) (form_of strategy.now dtype.now) (is_marked ctx.now)) }
+        ensures counted { OnOk result (Counted eof (first_indices (form_of strategy.now dtype.now) (is_marked ctx.now) eof)) }
+        ensures shows { IfOk result (λ m. machine_of m ≡ machine_at (names_of names) (form_of strategy.now dtype.now) (is_marked ctx.now) eof) }
+        ensures begins { IfOk result (λ m. Begins (allowed_in ctx.now) (strategy_data strategy.now) (ty dtype.now) (is_marked ctx.now) (names_of names) eof (machine_of m)) }
+        ensures refused { IfErr result (FormRefused (allowed_in ctx.now) (form_of strategy.now dtype.now) (is_marked ctx.now) eof) }
+    {
+        match start_root(alloc, strategy, dtype, ctx, order, eof) {
+            Ok(root) => Ok(Machine {
+                alloc,
+                phase: Phase::Reading(names),
+                root,
+                counts: Counts::new(alloc),
+            }),
+            Err(error) => {
+                give_up_names(order, names);
+                Err(error)
+            }
+        }
+    }
+
     /// The machine before its first step. The batches get paths from `stream` on; what is written behind all of them goes on
     /// from `eof`.
     ///
@@ -173,22 +212,48 @@ impl Machine {
         ensures cause { IfErr result StartMay }
         ensures allowed { OnOk result (IsAllowed (allowed_in ctx.now) (form_of strategy.now dtype.now) (is_marked ctx.now)) }
         ensures counted { OnOk result (Counted eof (first_indices (form_of strategy.now dtype.now) (is_marked ctx.now) eof)) }
-        ensures shows { IfOk result (λ m. machine_of m ≡ machine_at stream (form_of strategy.now dtype.now) (is_marked ctx.now) eof) }
-        ensures begins { IfOk result (λ m. Begins (allowed_in ctx.now) (strategy_data strategy.now) (ty dtype.now) (is_marked ctx.now) stream eof (machine_of m)) }
+        ensures shows { IfOk result (λ m. machine_of m ≡ machine_at (onward stream) (form_of strategy.now dtype.now) (is_marked ctx.now) eof) }
+        ensures begins { IfOk result (λ m. Begins (allowed_in ctx.now) (strategy_data strategy.now) (ty dtype.now) (is_marked ctx.now) (onward stream) eof (machine_of m)) }
         ensures refused { IfErr result (FormRefused (allowed_in ctx.now) (form_of strategy.now dtype.now) (is_marked ctx.now) eof) }
     {
-        match start_root(alloc, strategy, dtype, ctx, order, eof) {
-            Ok(root) => Ok(Machine {
-                alloc,
-                phase: Phase::Reading(stream),
-                root,
-                counts: Counts::new(alloc),
-            }),
-            Err(error) => {
-                give_up_pointer(order, stream);
-                Err(error)
-            }
-        }
+        Machine::start_from(
+            alloc,
+            strategy,
+            dtype,
+            ctx,
+            order,
+            Names::Onward(stream),
+            eof,
+        )
+    }
+
+    /// As `start`, of a stream whose batches get these ids, in order: as each step asks, there is one for each batch that the
+    /// source has left. What is left of them at its end is given up.
+    ///
+    /// It refuses as `start` does; then the ids and the pointer are given up.
+    pub fn start_at<O: Order>(
+        alloc: Global,
+        strategy: &Strategy,
+        dtype: &DType,
+        ctx: &LayoutWriterContext,
+        order: &mut O,
+        ids: Vec<SequenceId>,
+        eof: SequencePointer,
+    ) -> Result<Machine, WriteError>
+        requires { Owned (O.active order.old) (both (ids_stock ids.items) (end_stock eof)) }
+        ensures moved { Moved (O.active order.old) (O.active order.new) (both (ids_stock ids.items) (end_stock eof)) (ok_stock machine_stock result) }
+        ensures unreserved { IfOk result (λ m. machine_reserved m ≡ 0) }
+        ensures outlet { O.outlet order.new ≡ O.outlet order.old }
+        ensures sink { O.sink order.new ≡ O.sink order.old }
+        ensures cause { IfErr result StartMay }
+        ensures allowed { OnOk result (IsAllowed (allowed_in ctx.now) (form_of strategy.now dtype.now) (is_marked ctx.now)) }
+        ensures counted { OnOk result (Counted eof (first_indices (form_of strategy.now dtype.now) (is_marked ctx.now) eof)) }
+        ensures shows { IfOk result (λ m. machine_of m ≡ machine_at (handed ids.items) (form_of strategy.now dtype.now) (is_marked ctx.now) eof) }
+        ensures begins { IfOk result (λ m. Begins (allowed_in ctx.now) (strategy_data strategy.now) (ty dtype.now) (is_marked ctx.now) (handed ids.items) eof (machine_of m)) }
+        ensures refused { IfErr result (FormRefused (allowed_in ctx.now) (form_of strategy.now dtype.now) (is_marked ctx.now) eof) }
+    {
+        let ids = VecDeque::from(ids);
+        Machine::start_from(alloc, strategy, dtype, ctx, order, Names::Handed(ids), eof)
     }
 
     /// How many tasks are ready, as far as 64 bits tell. It counts them anew.
@@ -212,7 +277,8 @@ impl Machine {
         source: &mut B,
         order: &mut O,
     ) -> Result<ActionKind, WriteError>
-        requires { Owned (O.active order.old) (machine_stock self.old) }
+        requires owned { Owned (O.active order.old) (machine_stock self.old) }
+        requires enough { HasNames (phase_of self.old.phase) (B.left source.old) }
         ensures moved { Moved (O.active order.old) (O.active order.new) (machine_stock self.old) (machine_stock self.new) }
         ensures reserved { machine_reserved self.new ≡ machine_reserved self.old }
         ensures outlet { O.outlet order.new ≡ O.outlet order.old }
@@ -225,6 +291,7 @@ impl Machine {
         ensures done { IfOk result (SourceActed (B.kind source.old) (B.to_come source.old) (B.to_come source.new) (phase_of self.old.phase) (phase_of self.new.phase)
             (task_row self.old.root no_tasks) (task_row self.new.root no_tasks)) }
         ensures refused { IfErr result (SourceRefused (B.kind source.old) (B.to_come source.old) (B.to_come source.new) (phase_of self.old.phase) (task_row self.old.root no_tasks)) }
+        ensures enough { OnOk result (HasNames (phase_of self.new.phase) (B.left source.new)) }
     {
         let phase = mem::replace(&mut self.phase, Phase::Finished);
         let (phase, result) = act_source(order, source, phase, &mut self.root);
@@ -251,11 +318,13 @@ impl Machine {
         requires count { ready ≡ machine_ready (O.active order.old) self.old }
         requires fresh { Fresh (fin.keys (O.active order.old)) self.old.counts (row (out-Task self.old.root).kids.items) }
         requires allowed { AllMay (O.may_write order.old) (task_pairs self.old.root) }
+        requires enough { HasNames (phase_of self.old.phase) (B.left source.old) }
         ensures moved { Moved (O.active order.old) (O.active order.new) (machine_stock self.old) (machine_stock self.new) }
         ensures tracked { Paid ctx.old ctx.new (machine_reserved self.old) (machine_reserved self.new) }
         ensures told { IfOk result (λ s. (s.ready ≡ machine_ready (O.active order.old) self.old) × (s.picked ≡ pick % s.ready)) }
         ensures kind { B.kind source.new ≡ B.kind source.old }
         ensures left { IfOk result (λ s. LeavesFewer (B.left source.old) (B.left source.new) s.action) }
+        ensures enough { OnOk result (HasNames (phase_of self.new.phase) (B.left source.new)) }
         ensures source_told { SourceTold (B.faults source.old) (B.faults source.new) (B.may_fail source.old) (B.may_fail source.new)
             (B.must_fail source.old) (B.must_fail source.new)
             (reads_at (phase_of self.old.phase) (pick % machine_ready (O.active order.old) self.old)) result (λ s. s.action) }
@@ -331,11 +400,13 @@ impl Machine {
         requires reserved { machine_reserved self.old ≤ counted_bytes ctx.old }
         requires ready { 0 < machine_ready (O.active order.old) self.old }
         requires allowed { AllMay (O.may_write order.old) (task_pairs self.old.root) }
+        requires enough { HasNames (phase_of self.old.phase) (B.left source.old) }
         ensures moved { Moved (O.active order.old) (O.active order.new) (machine_stock self.old) (machine_stock self.new) }
         ensures tracked { Paid ctx.old ctx.new (machine_reserved self.old) (machine_reserved self.new) }
         ensures told { IfOk result (λ s. (s.ready ≡ machine_ready (O.active order.old) self.old) × (s.picked ≡ pick % s.ready)) }
         ensures kind { B.kind source.new ≡ B.kind source.old }
         ensures left { IfOk result (λ s. LeavesFewer (B.left source.old) (B.left source.new) s.action) }
+        ensures enough { OnOk result (HasNames (phase_of self.new.phase) (B.left source.new)) }
         ensures source_told { SourceTold (B.faults source.old) (B.faults source.new) (B.may_fail source.old) (B.may_fail source.new)
             (B.must_fail source.old) (B.must_fail source.new)
             (reads_at (phase_of self.old.phase) (pick % machine_ready (O.active order.old) self.old)) result (λ s. s.action) }

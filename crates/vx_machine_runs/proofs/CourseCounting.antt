@@ -3,7 +3,7 @@ use Rattle.std.proofs.Common.{◌≡◌, ◌%◌, ◌^◌, ◌<◌, ◌∷◌, �
 use Rattle.vx_path.specs.Lists.{In}
 use Rattle.vx_path.specs.Path.{Eof}
 use Rattle.vx_tasks.specs.Run.{Note, first_pick}
-use Rattle.vx_named_tasks.specs.Names.{Outset, CanBegin}
+use Rattle.vx_named_tasks.specs.Names.{Names, Outset, CanBegin}
 use Rattle.vx_plan.specs.PlanData.{Plan}
 use Rattle.vx_plan.specs.SourcePlan.{start_fault}
 use Rattle.vx_machine_turns.specs.Planned.{AtMost}
@@ -25,7 +25,7 @@ use Rattle.vx_machine_view.proofs.Reserving.{start_reserves_at}
 use Rattle.vx_machine_view.proofs.Wholes.{start_shows_at}
 use Rattle.vx_machine_runs.specs.Runs.{PickedBy}
 use Rattle.vx_machine_runs.specs.Numbers.{AllBelow}
-use Rattle.vx_machine_runs.specs.Courses.{Point, start_point, point_after, Goes, GoesBy, tracked_at, StandsIn, ForFutures, FinishedBy, CountedBelow, CourseIsCounted, CourseFits}
+use Rattle.vx_machine_runs.specs.Courses.{Point, start_point, point_after, Goes, GoesBy, tracked_at, StandsIn, ForFutures, FinishedBy, CountedBelow, CourseIsCounted, CourseFits, names_last}
 use Rattle.vx_machine_runs.proofs.Bounding.{fit_each}
 use Rattle.vx_machine_runs.proofs.Covers.{count_reading}
 use Rattle.vx_machine_runs.proofs.Covering.{start_covered_at}
@@ -35,12 +35,12 @@ use Rattle.vx_machine_runs.proofs.Ending.{none_later, open_none}
 use Rattle.vx_machine_runs.proofs.Stepping.{open_before, picks_more}
 
 module _ (starts : (o : Outset) → StartIsReachedAt o) (reached : (o : Outset) → StepIsReachedAt o) (stands : (o : Outset) → StateStandsAt o) (falls : (o : Outset) → WorkFallsAt o) (first : (o : Outset) → HistoryIsFirstAt o)
-    (apart : (o : Outset) → PathsAreApartAt o) (most : ℕ) (g : Write) (stream eof : Eof) where
+    (apart : (o : Outset) → PathsAreApartAt o) (most : ℕ) (g : Write) (names : Names) (eof : Eof) where
   abbrev o : Outset
-  o = outset_from stream eof
+  o = outset_from names eof
 
   abbrev begun : Point
-  begun = start_point g stream eof
+  begun = start_point g names eof
 
   -- it stands there, and all that its tasks have counted is below this
   abbrev Bounded : List Note → Point → Future → Type 0
@@ -49,10 +49,10 @@ module _ (starts : (o : Outset) → StartIsReachedAt o) (reached : (o : Outset) 
   start_bounded : start_fault g.setting g.way g.type g.mark ≡ None → AllBelow most (first_indices (form_of g) g.mark eof) → ForFutures o begun (λ f. Bounded [] begun f)
   start_bounded none all f may can =
       let r = starts o g f in
-      let idle : reserved_by begun.machine.root ≡ 0 = start_reserves_at stream eof (form_of g) g.mark in
+      let idle : reserved_by begun.machine.root ≡ 0 = start_reserves_at names eof (form_of g) g.mark in
       let t : g.tracker ≡ tracked_at g begun = omega (arith, idle) in
       let q : (r : ReachedAt g o [] f [] [] (tracked_at g begun)) × (r.tree ≡ begin_at g o [] f) = subst (λ z. (r : ReachedAt g o [] f [] [] z) × (r.tree ≡ begin_at g o [] f)) t r in (
-        record { reached = q.0; shows = λ by e. subst (ShowsMachineAt g o by begun.machine f) (sym q.1) (start_shows_at stream eof g by f none) },
+        record { reached = q.0; shows = λ by e. subst (ShowsMachineAt g o by begun.machine f) (sym q.1) (start_shows_at names eof g by f none) },
         λ n i. all n (subst (λ z. In n z) (ap did q.1 ∙ start_did_at g o [] f) i),
       )
 
@@ -79,41 +79,41 @@ module _ (starts : (o : Outset) → StartIsReachedAt o) (reached : (o : Outset) 
 
 pub course_is_counted : ((o : Outset) → StartIsReachedAt o) → ((o : Outset) → StepIsReachedAt o) → ((o : Outset) → StateStandsAt o) → ((o : Outset) → WorkFallsAt o) → ((o : Outset) → HistoryIsFirstAt o)
     → ((o : Outset) → PathsAreApartAt o) → ((o : Outset) → EndIsPlannedAt o) → CourseIsCounted
-course_is_counted starts reached stands falls first apart ends most g stream eof notes x h can fin at_stream at_eof starts_below counts =
-    on (led_bounded starts reached stands falls first apart most g stream eof h.careful [] notes (start_point g stream eof) x h.picked h.comes counts refl
-    (start_bounded starts reached stands falls first apart most g stream eof h.starts starts_below) (none_later x.heard) (open_none x.heard) can_none)
+course_is_counted starts reached stands falls first apart ends most g names eof notes x h can fin at_names at_eof starts_below counts =
+    on (led_bounded starts reached stands falls first apart most g names eof h.careful [] notes (start_point g names eof) x h.picked h.comes counts refl
+    (start_bounded starts reached stands falls first apart most g names eof h.starts starts_below) (none_later x.heard) (open_none x.heard) can_none)
   where
-    can_none : CanBegin (outset_from stream eof) (length (x.taken ++ []))
-    can_none = subst (λ bs. CanBegin (outset_from stream eof) (length bs)) (sym (append-nil x.taken)) can
+    can_none : CanBegin (outset_from names eof) (length (x.taken ++ []))
+    can_none = subst (λ bs. CanBegin (outset_from names eof) (length bs)) (sym (append-nil x.taken)) can
 
     long : length x.numbers ≡ length x.history
-    long = comes_long g notes (start_point g stream eof) x h.comes refl
+    long = comes_long g notes (start_point g names eof) x h.comes refl
 
-    ended : FinishedBy (stream_plan g.setting g.way g.type g.mark (outset_from stream eof) x.taken true) x
-    ended = ends_as_planned starts reached stands falls first apart ends g stream eof notes x h can fin
+    ended : FinishedBy (stream_plan g.setting g.way g.type g.mark (outset_from names eof) x.taken true) x
+    ended = ends_as_planned starts reached stands falls first apart ends g names eof notes x h can fin
 
-    told : planned_at g (outset_from stream eof) x.taken (none_later x.heard) ≡ stream_plan g.setting g.way g.type g.mark (outset_from stream eof) x.taken true
-    told = ap (λ z. stream_plan g.setting g.way g.type g.mark (outset_from stream eof) z x.heard) (append-nil x.taken) ∙ ap (λ b. stream_plan g.setting g.way g.type g.mark (outset_from stream eof) x.taken b) ended.heard
+    told : planned_at g (outset_from names eof) x.taken (none_later x.heard) ≡ stream_plan g.setting g.way g.type g.mark (outset_from names eof) x.taken true
+    told = ap (λ z. stream_plan g.setting g.way g.type g.mark (outset_from names eof) z x.heard) (append-nil x.taken) ∙ ap (λ b. stream_plan g.setting g.way g.type g.mark (outset_from names eof) x.taken b) ended.heard
 
-    on : Bounded starts reached stands falls first apart most g stream eof notes x (none_later x.heard) → AllBelow most (stream_plan g.setting g.way g.type g.mark (outset_from stream eof) x.taken true).numbers
-    on (s, below) n i = by (start_covered_at g stream eof (max stream.last eof.last) (x.taken ++ []) x.heard (omega arith) (omega arith) n (subst (λ (z : Plan). In n z.numbers) (sym told) i))
+    on : Bounded starts reached stands falls first apart most g names eof notes x (none_later x.heard) → AllBelow most (stream_plan g.setting g.way g.type g.mark (outset_from names eof) x.taken true).numbers
+    on (s, below) n i = by (start_covered_at g names eof (max (names_last names) eof.last) (x.taken ++ []) x.heard (omega arith) (omega arith) n (subst (λ (z : Plan). In n z.numbers) (sym told) i))
       where
         stood : Stands g.setting (depth g) s.reached.tree
-        stood = stands (outset_from stream eof) g x.taken (none_later x.heard) notes x.history (tracked_at g x) s.reached can_none
+        stood = stands (outset_from names eof) g x.taken (none_later x.heard) notes x.history (tracked_at g x) s.reached can_none
 
         over : all_over s.reached.tree ≡ true
-        over = sym (is_over reached stands falls first apart g (outset_from stream eof) h.careful notes x (none_later x.heard) long can_none s.reached s.shows) ∙ fin
+        over = sym (is_over reached stands falls first apart g (outset_from names eof) h.careful notes x (none_later x.heard) long can_none s.reached s.shows) ∙ fin
 
-        is : read g.setting count_reading (depth g) 0 [] (begin_at g (outset_from stream eof) x.taken (none_later x.heard)) ≡ did s.reached.tree
-        is = sym (reads_at g (outset_from stream eof) x.taken (none_later x.heard) notes x.history (tracked_at g x) s.reached can_none count_reading)
+        is : read g.setting count_reading (depth g) 0 [] (begin_at g (outset_from names eof) x.taken (none_later x.heard)) ≡ did s.reached.tree
+        is = sym (reads_at g (outset_from names eof) x.taken (none_later x.heard) notes x.history (tracked_at g x) s.reached can_none count_reading)
             ∙ all_did g.setting (depth g) 0 s.reached.tree ((over_is_done g.setting (depth g) s.reached.tree stood).0 over)
 
-        by : AtMost n (max stream.last eof.last ∷ read g.setting count_reading (depth g) 0 [] (begin_at g (outset_from stream eof) x.taken (none_later x.heard))) → n < most
-        by (m, inl e, k) = omega (arith, at_stream, at_eof, e, k)
+        by : AtMost n (max (names_last names) eof.last ∷ read g.setting count_reading (depth g) 0 [] (begin_at g (outset_from names eof) x.taken (none_later x.heard))) → n < most
+        by (m, inl e, k) = omega (arith, at_names, at_eof, e, k)
         by (m, inr j, k) = let a : m < most = below m (subst (λ z. In m z) is j) in omega (arith, a, k)
 
 pub course_fits : ((o : Outset) → StartIsReachedAt o) → ((o : Outset) → StepIsReachedAt o) → ((o : Outset) → StateStandsAt o) → ((o : Outset) → WorkFallsAt o) → ((o : Outset) → HistoryIsFirstAt o)
     → ((o : Outset) → PathsAreApartAt o) → ((o : Outset) → EndIsPlannedAt o) → CourseFits
-course_fits starts reached stands falls first apart ends g stream eof notes x h can fin at_stream at_eof starts_below counts =
-    fit_each (stream_plan g.setting g.way g.type g.mark (outset_from stream eof) x.taken true).numbers
-    (course_is_counted starts reached stands falls first apart ends (2 ^ 64) g stream eof notes x h can fin at_stream at_eof starts_below counts)
+course_fits starts reached stands falls first apart ends g names eof notes x h can fin at_names at_eof starts_below counts =
+    fit_each (stream_plan g.setting g.way g.type g.mark (outset_from names eof) x.taken true).numbers
+    (course_is_counted starts reached stands falls first apart ends (2 ^ 64) g names eof notes x h can fin at_names at_eof starts_below counts)

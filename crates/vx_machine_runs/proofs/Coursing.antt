@@ -13,7 +13,7 @@ use Rattle.vx_tasks.specs.Rules.{AtLeast}
 use Rattle.vx_tasks.specs.Run.{Note, nth, first_pick, later_picks}
 use Rattle.vx_tasks.specs.Runs.{noted}
 use Rattle.vx_cut_laws.specs.Cut.{cut}
-use Rattle.vx_named_tasks.specs.Names.{Outset, CanBegin}
+use Rattle.vx_named_tasks.specs.Names.{Names, Outset, CanBegin}
 use Rattle.vx_plan.specs.PlanData.{Pair, Plan, paths}
 use Rattle.vx_plan.specs.Number.{sorted}
 use Rattle.vx_plan.proofs.Fronts.{scattered_sorted}
@@ -302,22 +302,22 @@ picked_more picks [] n p h = (h, tt)
 picked_more picks (m ∷ ns) n p h = (p.0, picked_more (later_picks picks) ns n p.1 h)
 
 -- where the source tells something, its end isn't told
-pub asked_before : (g : Write) (stream eof : Eof) (notes : List Note) (x : Point) (told : Answer) (k : ℕ) → HasComeTo g stream eof notes x → Asking x.machine.phase k told → BeforeEnd x.heard told
-asked_before g stream eof notes x told k h asks = before_end x.heard told x.machine.phase k (comes_past g notes (start_point g stream eof) x h.comes (λ e. absurd (true≢false (sym e)))) asks
+pub asked_before : (g : Write) (names : Names) (eof : Eof) (notes : List Note) (x : Point) (told : Answer) (k : ℕ) → HasComeTo g names eof notes x → Asking x.machine.phase k told → BeforeEnd x.heard told
+asked_before g names eof notes x told k h asks = before_end x.heard told x.machine.phase k (comes_past g notes (start_point g names eof) x h.comes (λ e. absurd (true≢false (sym e)))) asks
 
 module _ (starts : (o : Outset) → StartIsReachedAt o) (reached : (o : Outset) → StepIsReachedAt o) (stands : (o : Outset) → StateStandsAt o) (falls : (o : Outset) → WorkFallsAt o) (first : (o : Outset) → HistoryIsFirstAt o)
-    (apart : (o : Outset) → PathsAreApartAt o) (g : Write) (stream eof : Eof) where
+    (apart : (o : Outset) → PathsAreApartAt o) (g : Write) (names : Names) (eof : Eof) where
   abbrev o : Outset
-  o = outset_from stream eof
+  o = outset_from names eof
 
-  begun : HasComeTo g stream eof [] (start_point g stream eof) → ForFutures o (start_point g stream eof) (λ f. StandsIn g o [] (start_point g stream eof) f)
+  begun : HasComeTo g names eof [] (start_point g names eof) → ForFutures o (start_point g names eof) (λ f. StandsIn g o [] (start_point g names eof) f)
   begun h f may can =
       let r = starts o g f in
-      let none : reserved_by (start_point g stream eof).machine.root ≡ 0 = start_reserves_at stream eof (form_of g) g.mark in
-      let t : g.tracker ≡ tracked_at g (start_point g stream eof) = omega (arith, none) in
-      let q : (r : ReachedAt g o [] f [] [] (tracked_at g (start_point g stream eof))) × ((by : List ℕ → ℕ) → ShowsMachineAt g o by (start_point g stream eof).machine f r.tree) =
-      subst (λ z. (r : ReachedAt g o [] f [] [] z) × ((by : List ℕ → ℕ) → ShowsMachineAt g o by (start_point g stream eof).machine f r.tree)) t
-      (r.0, λ by. subst (ShowsMachineAt g o by (start_point g stream eof).machine f) (sym r.1) (start_shows_at stream eof g by f h.starts)) in
+      let none : reserved_by (start_point g names eof).machine.root ≡ 0 = start_reserves_at names eof (form_of g) g.mark in
+      let t : g.tracker ≡ tracked_at g (start_point g names eof) = omega (arith, none) in
+      let q : (r : ReachedAt g o [] f [] [] (tracked_at g (start_point g names eof))) × ((by : List ℕ → ℕ) → ShowsMachineAt g o by (start_point g names eof).machine f r.tree) =
+      subst (λ z. (r : ReachedAt g o [] f [] [] z) × ((by : List ℕ → ℕ) → ShowsMachineAt g o by (start_point g names eof).machine f r.tree)) t
+      (r.0, λ by. subst (ShowsMachineAt g o by (start_point g names eof).machine f) (sym r.1) (start_shows_at names eof g by f h.starts)) in
       record { reached = q.0; shows = λ by e. q.1 by }
 
   -- from one point to the next
@@ -352,46 +352,46 @@ module _ (starts : (o : Outset) → StartIsReachedAt o) (reached : (o : Outset) 
   comes_under law seen (n ∷ ns) x y p c l u = subst (λ z. ForFutures o y (λ f. StandsIn g o z y f)) (append_assoc seen (n ∷ []) ns)
       (comes_under law (seen ++ (n ∷ [])) ns c.0 y (subst (λ z. PickedBy z ns) (sym (picks_more seen n g.schedule)) p.1) c.2 (goes_long g x c.0 n c.1 l) (under_on law seen x c.0 n c.1 p.0 l u))
 
-  module _ (notes : List Note) (x : Point) (h : HasComeTo g stream eof notes x) where
+  module _ (notes : List Note) (x : Point) (h : HasComeTo g names eof notes x) where
     under_way : ForFutures o x (λ f. StandsIn g o notes x f)
-    under_way = comes_under h.careful [] notes (start_point g stream eof) x h.picked h.comes refl (begun (record { careful = h.careful; starts = h.starts; picked = tt; comes = refl }))
+    under_way = comes_under h.careful [] notes (start_point g names eof) x h.picked h.comes refl (begun (record { careful = h.careful; starts = h.starts; picked = tt; comes = refl }))
 
 pub course_is_underway : ((o : Outset) → StartIsReachedAt o) → ((o : Outset) → StepIsReachedAt o) → ((o : Outset) → StateStandsAt o) → ((o : Outset) → WorkFallsAt o) → ((o : Outset) → HistoryIsFirstAt o)
     → ((o : Outset) → PathsAreApartAt o) → CourseIsUnderway
-course_is_underway starts reached stands falls first apart g stream eof notes x h = under_way starts reached stands falls first apart g stream eof notes x h
+course_is_underway starts reached stands falls first apart g names eof notes x h = under_way starts reached stands falls first apart g names eof notes x h
 
 pub course_is_ready : ((o : Outset) → StartIsReachedAt o) → ((o : Outset) → StepIsReachedAt o) → ((o : Outset) → StateStandsAt o) → ((o : Outset) → WorkFallsAt o) → ((o : Outset) → HistoryIsFirstAt o)
     → ((o : Outset) → PathsAreApartAt o) → ((o : Outset) → SomethingIsReadyAt o) → CourseIsReady
-course_is_ready starts reached stands falls first apart some g stream eof notes x h can going =
-    by (under_way starts reached stands falls first apart g stream eof notes x h (none_later x.heard) (open_none x.heard) can_none)
+course_is_ready starts reached stands falls first apart some g names eof notes x h can going =
+    by (under_way starts reached stands falls first apart g names eof notes x h (none_later x.heard) (open_none x.heard) can_none)
   where
-    can_none : CanBegin (outset_from stream eof) (length (x.taken ++ []))
-    can_none = subst (λ bs. CanBegin (outset_from stream eof) (length bs)) (sym (append-nil x.taken)) can
+    can_none : CanBegin (outset_from names eof) (length (x.taken ++ []))
+    can_none = subst (λ bs. CanBegin (outset_from names eof) (length bs)) (sym (append-nil x.taken)) can
 
     long : length x.numbers ≡ length x.history
-    long = comes_long g notes (start_point g stream eof) x h.comes refl
+    long = comes_long g notes (start_point g names eof) x h.comes refl
 
-    by : StandsIn g (outset_from stream eof) notes x (none_later x.heard) → 0 < whole_ready (machine_ids x.machine) x.machine
+    by : StandsIn g (outset_from names eof) notes x (none_later x.heard) → 0 < whole_ready (machine_ids x.machine) x.machine
     by s =
-        let more : 0 < length (moves_at g s.reached.tree) = some (outset_from stream eof) g x.taken (none_later x.heard) notes x.history (tracked_at g x) s.reached can_none
-        (sym (is_over reached stands falls first apart g (outset_from stream eof) h.careful notes x (none_later x.heard) long can_none s.reached s.shows) ∙ going) in
-        subst (λ z. 0 < z) (sym (as_ready reached stands falls first apart g (outset_from stream eof) h.careful notes x (none_later x.heard) long can_none s.reached s.shows 0 unasked)) more
+        let more : 0 < length (moves_at g s.reached.tree) = some (outset_from names eof) g x.taken (none_later x.heard) notes x.history (tracked_at g x) s.reached can_none
+        (sym (is_over reached stands falls first apart g (outset_from names eof) h.careful notes x (none_later x.heard) long can_none s.reached s.shows) ∙ going) in
+        subst (λ z. 0 < z) (sym (as_ready reached stands falls first apart g (outset_from names eof) h.careful notes x (none_later x.heard) long can_none s.reached s.shows 0 unasked)) more
 
 pub course_is_front : ((o : Outset) → StartIsReachedAt o) → ((o : Outset) → StepIsReachedAt o) → ((o : Outset) → StateStandsAt o) → ((o : Outset) → WorkFallsAt o) → ((o : Outset) → HistoryIsFirstAt o)
     → ((o : Outset) → PathsAreApartAt o) → CourseIsFront
-course_is_front starts reached stands falls first apart g stream eof notes x h f may can = by (under_way starts reached stands falls first apart g stream eof notes x h f may can)
+course_is_front starts reached stands falls first apart g names eof notes x h f may can = by (under_way starts reached stands falls first apart g names eof notes x h f may can)
   where
     Front : Type 0
-    Front = (more : List Pair) × (sorted (planned_at g (outset_from stream eof) x.taken f).pairs ≡ x.history ++ more) × ((p : Pair) → In p more → AtLeast (machine_ids x.machine) p.0)
+    Front = (more : List Pair) × (sorted (planned_at g (outset_from names eof) x.taken f).pairs ≡ x.history ++ more) × ((p : Pair) → In p more → AtLeast (machine_ids x.machine) p.0)
 
     long : length x.numbers ≡ length x.history
-    long = comes_long g notes (start_point g stream eof) x h.comes refl
+    long = comes_long g notes (start_point g names eof) x h.comes refl
 
-    by : StandsIn g (outset_from stream eof) notes x f → Front
+    by : StandsIn g (outset_from names eof) notes x f → Front
     by s =
-        let e = first (outset_from stream eof) g x.taken f notes x.history (tracked_at g x) s.reached can in
+        let e = first (outset_from names eof) g x.taken f notes x.history (tracked_at g x) s.reached can in
         let held : SameHeld (machine_ids x.machine) (all_paths s.reached.tree) =
-        held_alike reached stands falls first apart g (outset_from stream eof) h.careful notes x f long can s.reached s.shows in
+        held_alike reached stands falls first apart g (outset_from names eof) h.careful notes x f long can s.reached s.shows in
         (e.0, e.1, λ p i. at_held (machine_ids x.machine) (all_paths s.reached.tree) held p.0 (e.2 p i))
       where
         at_held : (ps qs : List (List ℕ)) → SameHeld ps qs → (q : List ℕ) → AtLeast qs q → AtLeast ps q
@@ -399,37 +399,37 @@ course_is_front starts reached stands falls first apart g stream eof notes x h f
 
 pub course_goes_on : ((o : Outset) → StartIsReachedAt o) → ((o : Outset) → StepIsReachedAt o) → ((o : Outset) → StateStandsAt o) → ((o : Outset) → WorkFallsAt o) → ((o : Outset) → HistoryIsFirstAt o)
     → ((o : Outset) → PathsAreApartAt o) → CourseGoesOn
-course_goes_on starts reached stands falls first apart g stream eof notes x y n h d pick = (
-  record { careful = h.careful; starts = h.starts; picked = picked_more g.schedule notes n h.picked pick; comes = comes_more g (start_point g stream eof) x y notes n h.comes d },
-  less_on starts reached stands falls first apart g stream eof h.careful notes x y n d pick (comes_long g notes (start_point g stream eof) x h.comes refl)
-      (under_way starts reached stands falls first apart g stream eof notes x h),
+course_goes_on starts reached stands falls first apart g names eof notes x y n h d pick = (
+  record { careful = h.careful; starts = h.starts; picked = picked_more g.schedule notes n h.picked pick; comes = comes_more g (start_point g names eof) x y notes n h.comes d },
+  less_on starts reached stands falls first apart g names eof h.careful notes x y n d pick (comes_long g notes (start_point g names eof) x h.comes refl)
+      (under_way starts reached stands falls first apart g names eof notes x h),
 )
 
 pub ends_as_planned : ((o : Outset) → StartIsReachedAt o) → ((o : Outset) → StepIsReachedAt o) → ((o : Outset) → StateStandsAt o) → ((o : Outset) → WorkFallsAt o) → ((o : Outset) → HistoryIsFirstAt o)
     → ((o : Outset) → PathsAreApartAt o) → ((o : Outset) → EndIsPlannedAt o) → CourseEnds
-ends_as_planned starts reached stands falls first apart ends g stream eof notes x h can fin =
-    by (under_way starts reached stands falls first apart g stream eof notes x h (none_later x.heard) (open_none x.heard) can_none)
+ends_as_planned starts reached stands falls first apart ends g names eof notes x h can fin =
+    by (under_way starts reached stands falls first apart g names eof notes x h (none_later x.heard) (open_none x.heard) can_none)
   where
-    can_none : CanBegin (outset_from stream eof) (length (x.taken ++ []))
-    can_none = subst (λ bs. CanBegin (outset_from stream eof) (length bs)) (sym (append-nil x.taken)) can
+    can_none : CanBegin (outset_from names eof) (length (x.taken ++ []))
+    can_none = subst (λ bs. CanBegin (outset_from names eof) (length bs)) (sym (append-nil x.taken)) can
 
     long : length x.numbers ≡ length x.history
-    long = comes_long g notes (start_point g stream eof) x h.comes refl
+    long = comes_long g notes (start_point g names eof) x h.comes refl
 
-    by : StandsIn g (outset_from stream eof) notes x (none_later x.heard) → FinishedBy (stream_plan g.setting g.way g.type g.mark (outset_from stream eof) x.taken true) x
+    by : StandsIn g (outset_from names eof) notes x (none_later x.heard) → FinishedBy (stream_plan g.setting g.way g.type g.mark (outset_from names eof) x.taken true) x
     by s =
-        let stood : Stands g.setting (depth g) s.reached.tree = stands (outset_from stream eof) g x.taken (none_later x.heard) notes x.history (tracked_at g x) s.reached can_none in
+        let stood : Stands g.setting (depth g) s.reached.tree = stands (outset_from names eof) g x.taken (none_later x.heard) notes x.history (tracked_at g x) s.reached can_none in
         let over_now : all_over s.reached.tree ≡ true =
-        sym (is_over reached stands falls first apart g (outset_from stream eof) h.careful notes x (none_later x.heard) long can_none s.reached s.shows) ∙ fin in
-        let e : EndedBy g (planned_at g (outset_from stream eof) x.taken (none_later x.heard)) (none_later x.heard) x.history (tracked_at g x) s.reached.tree =
-        ends (outset_from stream eof) g x.taken (none_later x.heard) notes x.history (tracked_at g x) s.reached can_none over_now h.starts in
-        let p : planned_at g (outset_from stream eof) x.taken (none_later x.heard) ≡ stream_plan g.setting g.way g.type g.mark (outset_from stream eof) x.taken true =
-        ap (λ z. stream_plan g.setting g.way g.type g.mark (outset_from stream eof) z x.heard) (append-nil x.taken) ∙ ap (λ b. stream_plan g.setting g.way g.type g.mark (outset_from stream eof) x.taken b) e.fits in
+        sym (is_over reached stands falls first apart g (outset_from names eof) h.careful notes x (none_later x.heard) long can_none s.reached s.shows) ∙ fin in
+        let e : EndedBy g (planned_at g (outset_from names eof) x.taken (none_later x.heard)) (none_later x.heard) x.history (tracked_at g x) s.reached.tree =
+        ends (outset_from names eof) g x.taken (none_later x.heard) notes x.history (tracked_at g x) s.reached can_none over_now h.starts in
+        let p : planned_at g (outset_from names eof) x.taken (none_later x.heard) ≡ stream_plan g.setting g.way g.type g.mark (outset_from names eof) x.taken true =
+        ap (λ z. stream_plan g.setting g.way g.type g.mark (outset_from names eof) z x.heard) (append-nil x.taken) ∙ ap (λ b. stream_plan g.setting g.way g.type g.mark (outset_from names eof) x.taken b) e.fits in
         record {
           heard = e.fits;
           faultless = ap (λ (z : Plan). z.faults) (sym p) ∙ e.faultless;
           appended = e.whole ∙ ap (λ (z : Plan). sorted z.pairs) p;
-          layout = λ number numbered. layout_shows_at (outset_from stream eof) g number (none_later x.heard) x.machine s.reached.tree stood (s.shows number numbered) over_now
+          layout = λ number numbered. layout_shows_at (outset_from names eof) g number (none_later x.heard) x.machine s.reached.tree stood (s.shows number numbered) over_now
               ∙ ap (map (renamed number)) e.layout ∙ ap (λ (z : Plan). renamed number z.layout ∷ []) p;
           released = let t : g.tracker + reserved_by x.machine.root ≡ g.tracker = e.tracked in omega (arith, t);
         }
@@ -450,34 +450,34 @@ caused_then g o notes x taken over f k w c = c
 
 pub course_has_cause : ((o : Outset) → StartIsReachedAt o) → ((o : Outset) → StepIsReachedAt o) → ((o : Outset) → StateStandsAt o) → ((o : Outset) → WorkFallsAt o) → ((o : Outset) → HistoryIsFirstAt o)
     → ((o : Outset) → PathsAreApartAt o) → ((o : Outset) → RefusalsHaveCauseAt o) → ((o : Outset) → MovesAreCountedAt o) → CourseHasCause
-course_has_cause starts reached stands falls first apart refusals moved_counts g stream eof notes x told number k w f h c may can =
-    caused_then g (outset_from stream eof) notes x x.taken told f k w
-    (by (under_way starts reached stands falls first apart g stream eof notes x h (before told f) (open_before x.heard told f c.once may) can_before))
+course_has_cause starts reached stands falls first apart refusals moved_counts g names eof notes x told number k w f h c may can =
+    caused_then g (outset_from names eof) notes x x.taken told f k w
+    (by (under_way starts reached stands falls first apart g names eof notes x h (before told f) (open_before x.heard told f c.once may) can_before))
   where
-    can_before : CanBegin (outset_from stream eof) (length (x.taken ++ (before told f).later))
-    can_before = subst (λ bs. CanBegin (outset_from stream eof) (length bs)) (sym (same_batches x.taken told f)) can
+    can_before : CanBegin (outset_from names eof) (length (x.taken ++ (before told f).later))
+    can_before = subst (λ bs. CanBegin (outset_from names eof) (length bs)) (sym (same_batches x.taken told f)) can
 
     long : length x.numbers ≡ length x.history
-    long = comes_long g notes (start_point g stream eof) x h.comes refl
+    long = comes_long g notes (start_point g names eof) x h.comes refl
 
-    by : StandsIn g (outset_from stream eof) notes x (before told f) → CausedThere g (outset_from stream eof) notes x x.taken (before told f) k w
+    by : StandsIn g (outset_from names eof) notes x (before told f) → CausedThere g (outset_from names eof) notes x x.taken (before told f) k w
     by s =
-        let stood : Stands g.setting (depth g) s.reached.tree = stands (outset_from stream eof) g x.taken (before told f) notes x.history (tracked_at g x) s.reached can_before in
-        let shows_it : ShowsMachineAt g (outset_from stream eof) (number_in x.history x.numbers) x.machine (before told f) s.reached.tree = shown reached stands falls first apart g (outset_from stream eof) h.careful notes x (before told f) long can_before s.reached s.shows in
-        let m : (v : TreeMove) × (nth (tree_moves g.setting (machine_ids x.machine) (depth g) s.reached.tree) k ≡ Some v) × SameWholeAt g (outset_from stream eof) (number_in x.history x.numbers) number f w v =
-        step_shows_at (outset_from stream eof) g (number_in x.history x.numbers) number (machine_ids x.machine) x.heard told f x.machine s.reached.tree k w h.careful stood may shows_it c.place
+        let stood : Stands g.setting (depth g) s.reached.tree = stands (outset_from names eof) g x.taken (before told f) notes x.history (tracked_at g x) s.reached can_before in
+        let shows_it : ShowsMachineAt g (outset_from names eof) (number_in x.history x.numbers) x.machine (before told f) s.reached.tree = shown reached stands falls first apart g (outset_from names eof) h.careful notes x (before told f) long can_before s.reached s.shows in
+        let m : (v : TreeMove) × (nth (tree_moves g.setting (machine_ids x.machine) (depth g) s.reached.tree) k ≡ Some v) × SameWholeAt g (outset_from names eof) (number_in x.history x.numbers) number f w v =
+        step_shows_at (outset_from names eof) g (number_in x.history x.numbers) number (machine_ids x.machine) x.heard told f x.machine s.reached.tree k w h.careful stood may shows_it c.place
         (asks_by g.setting g.type (machine_ids x.machine) number x.machine told k w f c.place c.asks c.typed c.fits) in
         let place : nth (moves_at g s.reached.tree) k ≡ Some m.0 =
-        ap (λ z. nth z k) (sym (same_moves reached stands falls first apart g (outset_from stream eof) h.careful notes x (before told f) long can_before s.reached s.shows)) ∙ m.1 in
+        ap (λ z. nth z k) (sym (same_moves reached stands falls first apart g (outset_from names eof) h.careful notes x (before told f) long can_before s.reached s.shows)) ∙ m.1 in
         let i : In m.0 (moves_at g s.reached.tree) = nth_in (moves_at g s.reached.tree) k m.0 place in
-        let n : CountedBy g (planned_at g (outset_from stream eof) x.taken (before told f)) (tracked_at g x) m.0 = moved_counts (outset_from stream eof) g x.taken (before told f) notes x.history (tracked_at g x) s.reached can_before m.0 i in
+        let n : CountedBy g (planned_at g (outset_from names eof) x.taken (before told f)) (tracked_at g x) m.0 = moved_counts (outset_from names eof) g x.taken (before told f) notes x.history (tracked_at g x) s.reached can_before m.0 i in
         record {
           caused = record {
-            refusal = λ v e. refusals (outset_from stream eof) g x.taken (before told f) notes x.history (tracked_at g x) s.reached can_before m.0 v i (sym m.2.refusal ∙ e);
+            refusal = λ v e. refusals (outset_from names eof) g x.taken (before told f) notes x.history (tracked_at g x) s.reached can_before m.0 v i (sym m.2.refusal ∙ e);
             numbers = λ j q. n.numbers j (subst (In j) m.2.numbers q);
             indices = λ j q. ⊎_elim (n.indices j) (n.births j) (in_cases j m.0.act.indices (opened m.0.room m.0.act.starts) (subst (In j) m.2.indices q));
-            joined = λ j q. joined_by j (whole_joins g (outset_from stream eof) (number_in x.history x.numbers) number (machine_ids x.machine) told (before told f) x.machine s.reached.tree shows_it
-                (free_below_at g (outset_from stream eof) x.machine (before told f) shows_it.past shows_it.kids s.reached.tree shows_it.tree_is stood) w
+            joined = λ j q. joined_by j (whole_joins g (outset_from names eof) (number_in x.history x.numbers) number (machine_ids x.machine) told (before told f) x.machine s.reached.tree shows_it
+                (free_below_at g (outset_from names eof) x.machine (before told f) shows_it.past shows_it.kids s.reached.tree shows_it.tree_is stood) w
                 (nth_in (whole_steps g.setting (machine_ids x.machine) number told x.machine) k w c.place) j q);
           };
           comes = record {
@@ -491,43 +491,43 @@ course_has_cause starts reached stands falls first apart refusals moved_counts g
             counts_are = s.reached.tracked;
             number_is = ap (λ z. tracked_at g x + z) m.2.raises;
           };
-          within = subst (λ z. tracked_at g x + z ≤ g.tracker + (planned_at g (outset_from stream eof) x.taken (before told f)).reserved) (sym m.2.raises) n.tracked;
+          within = subst (λ z. tracked_at g x + z ≤ g.tracker + (planned_at g (outset_from names eof) x.taken (before told f)).reserved) (sym m.2.raises) n.tracked;
         }
       where
-        joined_by : (j : ℕ) → (j ≡ 0) ⊎ In j (read g.setting number_reading (depth g) 0 [] s.reached.tree) → (j ≡ 0) ⊎ In j (planned_at g (outset_from stream eof) x.taken (before told f)).numbers
+        joined_by : (j : ℕ) → (j ≡ 0) ⊎ In j (read g.setting number_reading (depth g) 0 [] s.reached.tree) → (j ≡ 0) ⊎ In j (planned_at g (outset_from names eof) x.taken (before told f)).numbers
         joined_by j (inl e) = inl e
-        joined_by j (inr q) = inr ((at_start_at g (outset_from stream eof) x.taken (before told f) notes x.history (tracked_at g x) s.reached can_before).numbers j
-            (subst (In j) (reads_at g (outset_from stream eof) x.taken (before told f) notes x.history (tracked_at g x) s.reached can_before number_reading) q))
+        joined_by j (inr q) = inr ((at_start_at g (outset_from names eof) x.taken (before told f) notes x.history (tracked_at g x) s.reached can_before).numbers j
+            (subst (In j) (reads_at g (outset_from names eof) x.taken (before told f) notes x.history (tracked_at g x) s.reached can_before number_reading) q))
 
 pub course_misfit_is_read : ((o : Outset) → StartIsReachedAt o) → ((o : Outset) → StepIsReachedAt o) → ((o : Outset) → StateStandsAt o) → ((o : Outset) → WorkFallsAt o) → ((o : Outset) → HistoryIsFirstAt o)
     → ((o : Outset) → PathsAreApartAt o) → CourseMisfitIsRead
-course_misfit_is_read starts reached stands falls first apart g stream eof notes x told number k w h can at mis =
-    by (under_way starts reached stands falls first apart g stream eof notes x h (none_later x.heard) (open_none x.heard) can_none)
+course_misfit_is_read starts reached stands falls first apart g names eof notes x told number k w h can at mis =
+    by (under_way starts reached stands falls first apart g names eof notes x h (none_later x.heard) (open_none x.heard) can_none)
   where
     Read : Type 0
-    Read = (e : Eof) × (x.machine.phase ≡ reading e) × (k ≡ 0) × (told ≡ unasked)
+    Read = (ns : Names) × (x.machine.phase ≡ reading ns) × (k ≡ 0) × (told ≡ unasked)
 
-    can_none : CanBegin (outset_from stream eof) (length (x.taken ++ []))
-    can_none = subst (λ bs. CanBegin (outset_from stream eof) (length bs)) (sym (append-nil x.taken)) can
+    can_none : CanBegin (outset_from names eof) (length (x.taken ++ []))
+    can_none = subst (λ bs. CanBegin (outset_from names eof) (length bs)) (sym (append-nil x.taken)) can
 
-    by : StandsIn g (outset_from stream eof) notes x (none_later x.heard) → Read
+    by : StandsIn g (outset_from names eof) notes x (none_later x.heard) → Read
     by s = at_it (at_place (may_source x.machine.phase x.machine.root) (source_step told x.machine.phase x.machine.root)
         (map (in_root x.machine.phase) (steps g.setting (machine_ids x.machine) number x.machine.root)) k w at)
       where
-        sh : ShowsMachineAt g (outset_from stream eof) (number_in x.history x.numbers) x.machine (none_later x.heard) s.reached.tree
-        sh = shown reached stands falls first apart g (outset_from stream eof) h.careful notes x (none_later x.heard) (comes_long g notes (start_point g stream eof) x h.comes refl) can_none s.reached s.shows
+        sh : ShowsMachineAt g (outset_from names eof) (number_in x.history x.numbers) x.machine (none_later x.heard) s.reached.tree
+        sh = shown reached stands falls first apart g (outset_from names eof) h.careful notes x (none_later x.heard) (comes_long g notes (start_point g names eof) x h.comes refl) can_none s.reached s.shows
 
-        of_source : (e : Eof) × (x.machine.phase ≡ reading e) × (told ≡ unasked) → k ≡ 0 → Read
+        of_source : (ns : Names) × (x.machine.phase ≡ reading ns) × (told ≡ unasked) → k ≡ 0 → Read
         of_source (e, p, q) z = (e, p, z, q)
 
         of_root : (y : Step) × In y (steps g.setting (machine_ids x.machine) number x.machine.root) × (w ≡ in_root x.machine.phase y) → Read
         of_root (y, i, e) = absurd (true≢false (sym mis ∙ ap (λ (z : WholeStep). z.misfit) e
-            ∙ steps_fit g.setting (number_in x.history x.numbers) number (machine_ids x.machine) (root_depth g) (seed_at (form_of g) g.mark (outset_from stream eof)) 0 x.machine.root sh.kids sh.root y i))
+            ∙ steps_fit g.setting (number_in x.history x.numbers) number (machine_ids x.machine) (root_depth g) (seed_at (form_of g) g.mark (outset_from names eof)) 0 x.machine.root sh.kids sh.root y i))
 
         at_it : ((k ≡ 0) × (source_step told x.machine.phase x.machine.root ≡ w)) ⊎ In w (map (in_root x.machine.phase) (steps g.setting (machine_ids x.machine) number x.machine.root)) → Read
         at_it (inl (z, e)) = of_source (source_misfit told x.machine.phase x.machine.root (ap (λ (v : WholeStep). v.misfit) e ∙ mis)) z
         at_it (inr i) = of_root (from_map (in_root x.machine.phase) w (steps g.setting (machine_ids x.machine) number x.machine.root) i)
 
 pub course_start_has_cause : ((o : Outset) → StartIsCountedAt o) → CourseStartHasCause
-course_start_has_cause counted g stream eof f n can i big =
-    past_most n (planned_at g (outset_from stream eof) [] f).numbers big (counted (outset_from stream eof) g f n can (subst (λ z. In n z) (sym (opened_first_at g (outset_from stream eof))) i))
+course_start_has_cause counted g names eof f n can i big =
+    past_most n (planned_at g (outset_from names eof) [] f).numbers big (counted (outset_from names eof) g f n can (subst (λ z. In n z) (sym (opened_first_at g (outset_from names eof))) i))

@@ -1,5 +1,5 @@
 -- Each number of a plan is at most one that its tasks count.
-use Rattle.std.proofs.Common.{◌≡◌, ◌+◌, ◌≤◌, ◌∷◌, ◌++◌, ◌∙◌, ℕ, suc, inl, inr, ⊎_elim, Bool, true, false, List, length, refl, sym, ap, subst, arith, append_assoc, Option, Some, None, ◌||◌, []}
+use Rattle.std.proofs.Common.{◌⊎◌, ◌≡◌, ◌+◌, ◌≤◌, ◌∷◌, ◌++◌, ◌∙◌, ℕ, suc, inl, inr, ⊎_elim, Bool, true, false, List, length, refl, sym, ap, subst, arith, append_assoc, Option, Some, None, ◌||◌, []}
 use Rattle.std.proofs.lemmas.Bool.{true≢false}
 use Rattle.vx_model.specs.Ty.{Ty, Tys, no_fields, field}
 use Rattle.vx_model.specs.ChunkData.{ChunkData, cells}
@@ -10,7 +10,7 @@ use Rattle.vx_rules.specs.Columns.{Split, column, other_columns, struct_splits, 
 use Rattle.vx_strategy_spec.specs.StrategyData.{StrategyData, FlatOptions}
 use Rattle.vx_strategy_spec.specs.Walk.{walk}
 use Rattle.vx_tasks.specs.Runs.{first_batch}
-use Rattle.vx_named_tasks.specs.Names.{onward}
+use Rattle.vx_named_tasks.specs.Names.{Names, onward, handed, names_reach}
 use Rattle.vx_plan.specs.PlanData.{Setting, Item, Node, rows_in, totals, row_totals}
 use Rattle.vx_plan.specs.FlatNode.{flat_node, segment, length_of}
 use Rattle.vx_plan.specs.ChunkedNode.{chunked_node, chunk_plans, chunked_numbers}
@@ -42,6 +42,7 @@ use Rattle.vx_machine_view.specs.Suited.{Suited, AllSuited}
 use Rattle.vx_machine_view.specs.Whole.{form_of, outset_from}
 use Rattle.vx_machine_view.proofs.Suiting.{forms_are_suited}
 use Rattle.vx_machine_view.proofs.Words.{no_cons}
+use Rattle.vx_machine_runs.specs.Courses.{names_last}
 use Rattle.vx_machine_runs.proofs.Covers.{counted_by, count_reading, all_counted, Covers, most_over, most_in, AllCovered, parent_covers}
 use Rattle.vx_machine_runs.proofs.GroupCovering.{group_covers}
 use Rattle.vx_machine_runs.proofs.PressCovering.{compressed_covers}
@@ -398,20 +399,29 @@ start_covered g bs fits n i = subst (λ z. AtMost n (1 ∷ z)) (sym is) (by i)
 
 -- ---- wherever it begins
 
--- the same of a machine whose batches get their paths from one pointer on, and that goes on from another: neither has come further than this
-pub start_covered_at : (g : Write) (stream eof : Eof) (most : ℕ) (bs : List ChunkData) (fits : Bool) → stream.last ≤ most → eof.last ≤ most → (n : ℕ)
-    → In n (stream_plan g.setting g.way g.type g.mark (outset_from stream eof) bs fits).numbers
-    → AtMost n (most ∷ read g.setting count_reading (depth g) 0 [] (started_at g.way g.type g.mark (outset_from stream eof) bs fits))
-start_covered_at g stream eof most bs fits at_stream at_eof n i = subst (λ z. AtMost n (most ∷ z)) (sym is) (by i)
+-- how far a pointer comes with these batches
+reaches : (names : Names) (bs : List ChunkData) (fits : Bool) (n : ℕ) → In n (names_reach names (length bs)) → AtMost n (names_last names ∷ indices_in (named_acts names bs fits))
+reaches (onward e) bs fits n (inl q) =
+    let h = source_moves e bs fits in
+    let l : e.last + length bs ≤ h.0 = h.2 in
+    (h.0, h.1, omega (arith, l, q))
+reaches (onward e) bs fits n (inr z) = absurd z
+reaches (handed ps) bs fits n z = absurd z
+
+-- the same of a machine whose batches get these paths, and that goes on from this pointer: no pointer has come further than this
+pub start_covered_at : (g : Write) (names : Names) (eof : Eof) (most : ℕ) (bs : List ChunkData) (fits : Bool) → names_last names ≤ most → eof.last ≤ most → (n : ℕ)
+    → In n (stream_plan g.setting g.way g.type g.mark (outset_from names eof) bs fits).numbers
+    → AtMost n (most ∷ read g.setting count_reading (depth g) 0 [] (started_at g.way g.type g.mark (outset_from names eof) bs fits))
+start_covered_at g names eof most bs fits at_names at_eof n i = subst (λ z. AtMost n (most ∷ z)) (sym is) (by (in_cases n (names_reach names (length bs)) theirs i))
   where
     acts : List Act
-    acts = named_acts (onward stream) bs fits
+    acts = named_acts names bs fits
 
     c : Duty
-    c = duty_of g.setting (form_of g) g.mark (1 ∷ []) (named_items (onward stream) bs) fits eof
+    c = duty_of g.setting (form_of g) g.mark (1 ∷ []) (named_items names bs) fits eof
 
     mine : List ℕ
-    mine = counted_by (seed_at (form_of g) g.mark (outset_from stream eof)) acts
+    mine = counted_by (seed_at (form_of g) g.mark (outset_from names eof)) acts
 
     own : List ℕ
     own = counted_by c.seed (duty_script g.setting c)
@@ -419,9 +429,9 @@ start_covered_at g stream eof most bs fits at_stream at_eof n i = subst (λ z. A
     kids : List ℕ
     kids = below g.setting count_reading (fuel_of (form_of g)) c
 
-    is : read g.setting count_reading (depth g) 0 [] (started_at g.way g.type g.mark (outset_from stream eof) bs fits) ≡ mine ++ ((own ++ (kids ++ [])) ++ [])
-    is = start_at_reads count_reading g.setting (depth g) (form_of g) g.mark (outset_from stream eof) bs fits
-        ∙ ap (λ z. mine ++ (z ++ [])) (row_is g.setting count_reading (λ u. fuel_of (form_of g)) 0 acts (c ∷ []) (named.gives_batches (onward stream) bs fits, named.closes_root (onward stream) bs fits, tt))
+    is : read g.setting count_reading (depth g) 0 [] (started_at g.way g.type g.mark (outset_from names eof) bs fits) ≡ mine ++ ((own ++ (kids ++ [])) ++ [])
+    is = start_at_reads count_reading g.setting (depth g) (form_of g) g.mark (outset_from names eof) bs fits
+        ∙ ap (λ z. mine ++ (z ++ [])) (row_is g.setting count_reading (λ u. fuel_of (form_of g)) 0 acts (c ∷ []) (named.gives_batches names bs fits, named.closes_root names bs fits, tt))
 
     from_root : (k : ℕ) → In k (own ++ kids) → In k (mine ++ ((own ++ (kids ++ [])) ++ []))
     from_root k z = in_right k mine ((own ++ (kids ++ [])) ++ [])
@@ -430,10 +440,10 @@ start_covered_at g stream eof most bs fits at_stream at_eof n i = subst (λ z. A
     from_source : (k : ℕ) → In k (indices_in acts) → In k (mine ++ ((own ++ (kids ++ [])) ++ []))
     from_source k z = in_left k mine ((own ++ (kids ++ [])) ++ []) (in_left k (numbers_in acts ++ indices_in acts) [] (in_right k (numbers_in acts) (indices_in acts) z))
 
-    by : In n (stream_plan g.setting g.way g.type g.mark (outset_from stream eof) bs fits).numbers → AtMost n (most ∷ (mine ++ ((own ++ (kids ++ [])) ++ [])))
-    by (inl e) =
-        let h = source_moves stream bs fits in
-        let l : stream.last + length bs ≤ h.0 = h.2 in
-        most_over n stream.last most (indices_in acts) (mine ++ ((own ++ (kids ++ [])) ++ [])) at_stream from_source (h.0, h.1, omega (arith, l, e))
+    theirs : List ℕ
+    theirs = (plan g.setting g.way g.type g.mark (named_items names bs) fits eof).numbers
+
+    by : In n (names_reach names (length bs)) ⊎ In n theirs → AtMost n (most ∷ (mine ++ ((own ++ (kids ++ [])) ++ [])))
+    by (inl j) = most_over n (names_last names) most (indices_in acts) (mine ++ ((own ++ (kids ++ [])) ++ [])) at_names from_source (reaches names bs fits n j)
     by (inr j) = most_over n eof.last most (own ++ kids) (mine ++ ((own ++ (kids ++ [])) ++ [])) at_eof from_root
-        ((plan_covered g.setting g.way g.type).covers g.mark (1 ∷ []) (named_items (onward stream) bs) fits eof (fuel_of (form_of g)) (fuel_is_enough g.way g.type).1 n j)
+        ((plan_covered g.setting g.way g.type).covers g.mark (1 ∷ []) (named_items names bs) fits eof (fuel_of (form_of g)) (fuel_is_enough g.way g.type).1 n j)

@@ -10,6 +10,7 @@ pub mod Tracing
 pub mod Picking
 pub mod Tracking
 pub mod Coursing
+pub mod Naming
 pub mod Covers
 pub mod GroupCovering
 pub mod PressCovering

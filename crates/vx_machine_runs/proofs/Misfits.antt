@@ -1,6 +1,7 @@
 -- A chunk of another type comes of the source alone.
 use Rattle.std.proofs.Common.{◌≡◌, ◌+◌, ◌&&◌, ◌==◌, ◌⊎◌, ◌∷◌, ◌++◌, ◌∙◌, ℕ, zero, suc, Bool, true, false, not, cond, List, map, length, refl, sym, ap, subst, inl, inr, Option, Some, None, []}
 use Rattle.std.proofs.lemmas.Bool.{true≢false}
+use Rattle.vx_named_tasks.specs.Names.{Names}
 use Rattle.vx_model.specs.Ty.{Ty, list, struct}
 use Rattle.vx_model.specs.CellData.{CellData}
 use Rattle.vx_model.specs.ChunkData.{ChunkData, held}
@@ -251,7 +252,7 @@ module _ (s : Setting) (number : List ℕ → ℕ) (next : ℕ) (all : List (Lis
 
 -- ---- the whole machine
 
-pub source_misfit : (a : Answer) (p : Phase) (root : Tasks) → (source_step a p root).misfit ≡ true → (e : Eof) × (p ≡ reading e) × (a ≡ unasked)
+pub source_misfit : (a : Answer) (p : Phase) (root : Tasks) → (source_step a p root).misfit ≡ true → (ns : Names) × (p ≡ reading ns) × (a ≡ unasked)
 source_misfit unasked (reading e) root h = (e, refl, refl)
 source_misfit (came b) (reading e) root h = absurd (true≢false (sym h))
 source_misfit over (reading e) root h = absurd (true≢false (sym h))
@@ -269,13 +270,13 @@ pub misfit_is_read : MisfitIsRead
 misfit_is_read g first seen x a k w u at mis = on (u (none_later x.heard) (open_none x.heard))
   where
     Read : Type 0
-    Read = (e : Eof) × (x.machine.phase ≡ reading e) × (k ≡ 0) × (a ≡ unasked)
+    Read = (ns : Names) × (x.machine.phase ≡ reading ns) × (k ≡ 0) × (a ≡ unasked)
 
     on : (r : Reached g x.taken (none_later x.heard) seen x.history (tracked g x)) × Showing g first x.taken x.machine (none_later x.heard) r.tree → Read
     on (r, shown) = by (at_place (may_source x.machine.phase x.machine.root) (source_step a x.machine.phase x.machine.root)
         (map (in_root x.machine.phase) (steps g.setting (machine_ids x.machine) (first + length x.history) x.machine.root)) k w at)
       where
-        of_source : (e : Eof) × (x.machine.phase ≡ reading e) × (a ≡ unasked) → k ≡ 0 → Read
+        of_source : (ns : Names) × (x.machine.phase ≡ reading ns) × (a ≡ unasked) → k ≡ 0 → Read
         of_source (e, p, q) z = (e, p, z, q)
 
         of_root : (y : Step) × In y (steps g.setting (machine_ids x.machine) (first + length x.history) x.machine.root) × (w ≡ in_root x.machine.phase y) → Read

@@ -2,8 +2,8 @@
 use Rattle.std.proofs.Common.{◌≡◌, ◌+◌, ◌%◌, ◌<◌, ◌∷◌, ◌++◌, ◌∙◌, ℕ, zero, suc, Bool, true, false, List, map, length, refl, sym, ap, subst, arith, Some, None, append_assoc, append-nil, []}
 use Rattle.std.proofs.Math.Nat.{mod-eq_of_lt}
 use Rattle.std.proofs.lemmas.Bool.{true≢false}
+use Rattle.vx_named_tasks.specs.Names.{Names}
 use Rattle.vx_model.specs.Ty.{Ty}
-use Rattle.vx_path.specs.Path.{Eof}
 use Rattle.vx_machine_state.specs.Images.{Careful}
 use Rattle.vx_tasks.specs.Run.{Note, nth, first_pick, later_picks}
 use Rattle.vx_tasks.specs.Runs.{noted}
@@ -36,12 +36,12 @@ pub some_same : {A : Type 0} (x y : A) → Some x ≡ Some y → x ≡ y
 some_same x y e = cc
 
 -- where it reads and is told nothing, the step is of another type
-misfits : (s : Setting) (all : List (List ℕ)) (number : ℕ) (m : Machine) (e : Eof) (w : WholeStep) → m.phase ≡ reading e → nth (whole_steps s all number unasked m) 0 ≡ Some w → w.misfit ≡ true
+misfits : (s : Setting) (all : List (List ℕ)) (number : ℕ) (m : Machine) (ns : Names) (w : WholeStep) → m.phase ≡ reading ns → nth (whole_steps s all number unasked m) 0 ≡ Some w → w.misfit ≡ true
 misfits s all number m e w is at =
     let t : nth (whole_steps s all number unasked m) 0 ≡ Some (source_step unasked m.phase m.root) = source_place s all number unasked m (ap (λ z. may_source z m.root) is) in
     sym (ap (λ (z : WholeStep). z.misfit) (some_same (source_step unasked m.phase m.root) w (sym t ∙ at))) ∙ ap (λ z. (source_step unasked z m.root).misfit) is
 
-asked : (t : Ty) (f : Future) (p : Phase) (k : ℕ) (a : Answer) → Asking p k a → TypedAnswer t a → ((e : Eof) → p ≡ reading e → k ≡ 0 → a ≡ unasked → ⊥) → Asks t f p k a
+asked : (t : Ty) (f : Future) (p : Phase) (k : ℕ) (a : Answer) → Asking p k a → TypedAnswer t a → ((ns : Names) → p ≡ reading ns → k ≡ 0 → a ≡ unasked → ⊥) → Asks t f p k a
 asked t f (reading e) zero unasked h ty never = absurd (never e refl refl refl)
 asked t f (reading e) zero (came b) h ty never = ty
 asked t f (reading e) zero over h ty never = tt

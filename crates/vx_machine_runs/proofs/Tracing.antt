@@ -1,9 +1,9 @@
 -- What is noted of a run, against the work of its tree of scripts.
 use Rattle.std.proofs.Common.{◌≡◌, ◌+◌, ◌%◌, ◌<◌, ◌≤◌, ◌||◌, ◌∷◌, ◌++◌, ◌∙◌, ℕ, true, false, List, map, length, refl, sym, ap, subst, inl, inr, arith, append_assoc, append-nil, Some, is_some, []}
 use Rattle.std.proofs.lemmas.Bool.{true≢false}
+use Rattle.vx_named_tasks.specs.Names.{Names}
 use Rattle.vx_model.specs.ChunkData.{ChunkData}
 use Rattle.vx_path.specs.Lists.{In}
-use Rattle.vx_path.specs.Path.{Eof}
 use Rattle.vx_machine_state.specs.Images.{Careful}
 use Rattle.vx_tasks.specs.Task.{Kind, Free, Take, TakeEnd, Put, Append, Join, appends_of}
 use Rattle.vx_tasks.specs.State.{left}
@@ -154,10 +154,10 @@ misfit_is_last whole g first seen x k w law u still at mis pick = by (misfit_is_
     o : Open x.heard (none_later false)
     o = λ h. absurd (true≢false (sym h ∙ still))
 
-    reads : (e : Eof) (p : Phase) (j : ℕ) → p ≡ reading e → j ≡ 0 → Asks g.type (none_later false) p j unasked
+    reads : (ns : Names) (p : Phase) (j : ℕ) → p ≡ reading ns → j ≡ 0 → Asks g.type (none_later false) p j unasked
     reads e p j q z = subst (λ y. Asks g.type (none_later false) y j unasked) (sym q) (subst (λ y. Asks g.type (none_later false) (reading e) y unasked) (sym z) (refl, refl))
 
-    by : (e : Eof) × (x.machine.phase ≡ reading e) × (k ≡ 0) × (unasked ≡ unasked) → seen ≡ trace (cut (scripts_of g x.taken false)) g.schedule
+    by : (ns : Names) × (x.machine.phase ≡ reading ns) × (k ≡ 0) × (unasked ≡ unasked) → seen ≡ trace (cut (scripts_of g x.taken false)) g.schedule
     by (e, q, z, r) =
         last_one whole g first seen x unasked (none_later false) k w law o at (reads e x.machine.phase k q z) pick (ap (λ y. y || is_some w.refusal) mis) (u (none_later false) o)
         ∙ ap (λ y. trace (cut (started_forest g.setting g.way g.type g.mark y false)) g.schedule) (append-nil x.taken)

@@ -1,5 +1,5 @@
 -- Runs of the machine wherever it begins and over whatever sink: one of its own, or one that others use too.
-use Rattle.std.specs.Prelude.{◌≡◌, ◌+◌, ◌%◌, ◌^◌, ◌<◌, ◌≤◌, ℕ, suc, Bool, true, false, List, [], ◌∷◌, ◌++◌, map, length, Some, None, IsFalse}
+use Rattle.std.specs.Prelude.{◌≡◌, ◌+◌, ◌%◌, ◌^◌, ◌<◌, ◌≤◌, ℕ, zero, suc, Bool, true, false, List, [], ◌∷◌, ◌++◌, map, length, Some, None, IsFalse}
 use Rattle.vx_model.specs.ChunkData.{ChunkData}
 use Rattle.vx_path.specs.Lists.{In}
 use Rattle.vx_path.specs.Path.{Eof}
@@ -9,7 +9,7 @@ use Rattle.vx_tasks.specs.Rules.{AtLeast}
 use Rattle.vx_tasks.specs.Run.{Note, nth, first_pick}
 use Rattle.vx_tasks.specs.Runs.{noted}
 use Rattle.vx_cut_laws.specs.Cut.{cut}
-use Rattle.vx_named_tasks.specs.Names.{Outset, CanBegin}
+use Rattle.vx_named_tasks.specs.Names.{Names, onward, handed, later_names, Outset, CanBegin}
 use Rattle.vx_layout_spec.specs.LayoutTree.{renamed}
 use Rattle.vx_plan.specs.PlanData.{Pair, Plan}
 use Rattle.vx_plan.specs.Number.{sorted}
@@ -23,7 +23,7 @@ use Rattle.vx_machine_promises.specs.Reached.{ReachedAt}
 use Rattle.vx_machine_state.specs.Acts.{layouts_in}
 use Rattle.vx_machine_state.specs.Reserved.{reserved_by}
 use Rattle.vx_machine_state.specs.Start.{first_indices}
-use Rattle.vx_machine_view.specs.Machine.{reading, Machine, start_from, WholeStep, whole_steps, is_finished, machine_ids}
+use Rattle.vx_machine_view.specs.Machine.{Phase, reading, giving, closing, finished, Machine, start_from, WholeStep, whole_steps, is_finished, machine_ids}
 use Rattle.vx_machine_view.specs.Places.{whole_ready}
 use Rattle.vx_machine_view.specs.Whole.{form_of, outset_from, ShowsMachineAt}
 use Rattle.vx_machine_runs.specs.Ends.{Caused}
@@ -40,9 +40,9 @@ pub record Point : Type 0 where
   pub history : List Pair
   pub numbers : List ℕ
 
--- at the start: the batches get their paths from the first pointer on, and the other is the eof pointer behind them
-abbrev pub start_point : Write → Eof → Eof → Point
-start_point g stream eof = record { machine = start_from stream eof (form_of g) g.mark; taken = []; heard = false; history = []; numbers = [] }
+-- at the start: the batches get these paths, and behind them all stands the eof pointer
+abbrev pub start_point : Write → Names → Eof → Point
+start_point g names eof = record { machine = start_from names eof (form_of g) g.mark; taken = []; heard = false; history = []; numbers = [] }
 
 -- behind a step, in which the source told this, and the sink gave this number to what was appended
 abbrev pub point_after : Point → Answer → ℕ → WholeStep → Point
@@ -68,13 +68,13 @@ abbrev pub GoesBy : Write → Point → List Note → Point → Type 0
 GoesBy g x [] y = x ≡ y
 GoesBy g x (n ∷ ns) y = (z : Point) × Goes g x z n × GoesBy g z ns y
 
--- The write has come here from these pointers: its start refuses nothing, and the steps of these notes, as its schedule picks them, have led
+-- The write has come here from these paths and this pointer: its start refuses nothing, and the steps of these notes, as its schedule picks them, have led
 -- to where it stands.
-pub record HasComeTo (g : Write) (stream eof : Eof) (notes : List Note) (x : Point) : Type 0 where
+pub record HasComeTo (g : Write) (names : Names) (eof : Eof) (notes : List Note) (x : Point) : Type 0 where
   pub careful : Careful g.setting
   pub starts : start_fault g.setting g.way g.type g.mark ≡ None
   pub picked : PickedBy g.schedule notes
-  pub comes : GoesBy g (start_point g stream eof) notes x
+  pub comes : GoesBy g (start_point g names eof) notes x
 
 -- ---- the state that the machine shows
 
@@ -104,26 +104,44 @@ pub record LeavesIn (g : Write) (o : Outset) (notes : List Note) (x : Point) (f 
 
 -- it is under way wherever it has come
 abbrev pub CourseIsUnderway : Type 0
-CourseIsUnderway = (g : Write) (stream eof : Eof) (notes : List Note) (x : Point) → HasComeTo g stream eof notes x
-    → ForFutures (outset_from stream eof) x (λ f. StandsIn g (outset_from stream eof) notes x f)
+CourseIsUnderway = (g : Write) (names : Names) (eof : Eof) (notes : List Note) (x : Point) → HasComeTo g names eof notes x
+    → ForFutures (outset_from names eof) x (λ f. StandsIn g (outset_from names eof) notes x f)
 
 -- something is ready until the machine has finished
 abbrev pub CourseIsReady : Type 0
-CourseIsReady = (g : Write) (stream eof : Eof) (notes : List Note) (x : Point) → HasComeTo g stream eof notes x → CanBegin (outset_from stream eof) (length x.taken)
+CourseIsReady = (g : Write) (names : Names) (eof : Eof) (notes : List Note) (x : Point) → HasComeTo g names eof notes x → CanBegin (outset_from names eof) (length x.taken)
     → IsFalse (is_finished x.machine) → 0 < whole_ready (machine_ids x.machine) x.machine
 
 -- what it has appended are the first pairs of the plan, in order of path; each of the others has a path that is at least one of those held
 abbrev pub CourseIsFront : Type 0
-CourseIsFront = (g : Write) (stream eof : Eof) (notes : List Note) (x : Point) → HasComeTo g stream eof notes x
-    → ForFutures (outset_from stream eof) x (λ f. (more : List Pair) × (sorted (planned_at g (outset_from stream eof) x.taken f).pairs ≡ x.history ++ more)
+CourseIsFront = (g : Write) (names : Names) (eof : Eof) (notes : List Note) (x : Point) → HasComeTo g names eof notes x
+    → ForFutures (outset_from names eof) x (λ f. (more : List Pair) × (sorted (planned_at g (outset_from names eof) x.taken f).pairs ≡ x.history ++ more)
     × ((p : Pair) → In p more → AtLeast (machine_ids x.machine) p.0))
 
 -- a step by the schedule's pick leads it on, and leaves one act less of all that may then still come
 abbrev pub CourseGoesOn : Type 0
-CourseGoesOn = (g : Write) (stream eof : Eof) (notes : List Note) (x y : Point) (n : Note) → HasComeTo g stream eof notes x → (d : Goes g x y n)
+CourseGoesOn = (g : Write) (names : Names) (eof : Eof) (notes : List Note) (x y : Point) (n : Note) → HasComeTo g names eof notes x → (d : Goes g x y n)
     → n.picked ≡ first_pick (picks_after (length notes) g.schedule) % n.ready
-    → HasComeTo g stream eof (notes ++ (n ∷ [])) y
-    × ForFutures (outset_from stream eof) y (λ f. (k : ℕ) × LeavesIn g (outset_from stream eof) notes x (before d.told f) (suc k) × LeavesIn g (outset_from stream eof) (notes ++ (n ∷ [])) y f k)
+    → HasComeTo g names eof (notes ++ (n ∷ [])) y
+    × ForFutures (outset_from names eof) y (λ f. (k : ℕ) × LeavesIn g (outset_from names eof) notes x (before d.told f) (suc k) × LeavesIn g (outset_from names eof) (notes ++ (n ∷ [])) y f k)
+
+-- ---- the paths that are left
+
+-- those behind so many
+abbrev pub names_after : Names → ℕ → Names
+names_after ns zero = ns
+names_after ns (suc k) = names_after (later_names ns) k
+
+-- the batches that the source still reads get these
+abbrev pub NamesLeft : Names → Phase → Type 0
+NamesLeft ns (reading left) = left ≡ ns
+NamesLeft ns (giving left i) = left ≡ ns
+NamesLeft ns closing = Unit {0}
+NamesLeft ns finished = Unit {0}
+
+-- each batch takes one
+abbrev pub CourseHasNames : Type 0
+CourseHasNames = (g : Write) (names : Names) (eof : Eof) (notes : List Note) (x : Point) → HasComeTo g names eof notes x → NamesLeft (names_after names (length x.taken)) x.machine.phase
 
 -- ---- where it has finished
 
@@ -137,8 +155,8 @@ pub record FinishedBy (p : Plan) (x : Point) : Type 0 where
 
 -- that of the batches that were taken, where the machine can begin there with them
 abbrev pub CourseEnds : Type 0
-CourseEnds = (g : Write) (stream eof : Eof) (notes : List Note) (x : Point) → HasComeTo g stream eof notes x → CanBegin (outset_from stream eof) (length x.taken)
-    → is_finished x.machine ≡ true → FinishedBy (stream_plan g.setting g.way g.type g.mark (outset_from stream eof) x.taken true) x
+CourseEnds = (g : Write) (names : Names) (eof : Eof) (notes : List Note) (x : Point) → HasComeTo g names eof notes x → CanBegin (outset_from names eof) (length x.taken)
+    → is_finished x.machine ≡ true → FinishedBy (stream_plan g.setting g.way g.type g.mark (outset_from names eof) x.taken true) x
 
 -- ---- causes
 
@@ -159,21 +177,26 @@ pub record CausedThere (g : Write) (o : Outset) (notes : List Note) (x : Point) 
 
 -- A step that is refused, or counts past a number, has its cause in the plan of the batches taken by then and of whatever follows.
 abbrev pub CourseHasCause : Type 0
-CourseHasCause = (g : Write) (stream eof : Eof) (notes : List Note) (x : Point) (told : Answer) (number k : ℕ) (w : WholeStep) (f : Future) → HasComeTo g stream eof notes x → ChosenAt g x told number k w
-    → Open (heard_by x.heard told) f → CanBegin (outset_from stream eof) (length (taken_by x.taken told ++ f.later))
-    → CausedThere g (outset_from stream eof) notes x (taken_by x.taken told) f k w
+CourseHasCause = (g : Write) (names : Names) (eof : Eof) (notes : List Note) (x : Point) (told : Answer) (number k : ℕ) (w : WholeStep) (f : Future) → HasComeTo g names eof notes x → ChosenAt g x told number k w
+    → Open (heard_by x.heard told) f → CanBegin (outset_from names eof) (length (taken_by x.taken told ++ f.later))
+    → CausedThere g (outset_from names eof) notes x (taken_by x.taken told) f k w
 
 -- a step that finds a chunk of another type is the one in which the source reads, and is told nothing
 abbrev pub CourseMisfitIsRead : Type 0
-CourseMisfitIsRead = (g : Write) (stream eof : Eof) (notes : List Note) (x : Point) (told : Answer) (number k : ℕ) (w : WholeStep) → HasComeTo g stream eof notes x → CanBegin (outset_from stream eof) (length x.taken)
-    → nth (whole_steps g.setting (machine_ids x.machine) number told x.machine) k ≡ Some w → w.misfit ≡ true → (e : Eof) × (x.machine.phase ≡ reading e) × (k ≡ 0) × (told ≡ unasked)
+CourseMisfitIsRead = (g : Write) (names : Names) (eof : Eof) (notes : List Note) (x : Point) (told : Answer) (number k : ℕ) (w : WholeStep) → HasComeTo g names eof notes x → CanBegin (outset_from names eof) (length x.taken)
+    → nth (whole_steps g.setting (machine_ids x.machine) number told x.machine) k ≡ Some w → w.misfit ≡ true → (ns : Names) × (x.machine.phase ≡ reading ns) × (k ≡ 0) × (told ≡ unasked)
 
 -- how far pointers come at the start: what doesn't fit 64 bits is on its way to one of the plan's numbers
 abbrev pub CourseStartHasCause : Type 0
-CourseStartHasCause = (g : Write) (stream eof : Eof) (f : Future) (n : ℕ) → CanBegin (outset_from stream eof) (length f.later) → In n (first_indices (form_of g) g.mark eof) → 2 ^ 64 ≤ n
-    → IsPast (2 ^ 64) (planned_at g (outset_from stream eof) [] f).numbers
+CourseStartHasCause = (g : Write) (names : Names) (eof : Eof) (f : Future) (n : ℕ) → CanBegin (outset_from names eof) (length f.later) → In n (first_indices (form_of g) g.mark eof) → 2 ^ 64 ≤ n
+    → IsPast (2 ^ 64) (planned_at g (outset_from names eof) [] f).numbers
 
 -- ---- what is counted
+
+-- how far the pointer has come that the paths are taken from
+abbrev pub names_last : Names → ℕ
+names_last (onward e) = e.last
+names_last (handed ps) = 0
 
 -- what each step counts: rows and lengths, and how far pointers come
 abbrev pub CountedBelow : ℕ → (g : Write) (x : Point) (ns : List Note) (y : Point) → GoesBy g x ns y → Type 0
@@ -183,12 +206,12 @@ CountedBelow most g x (n ∷ ns) y c = AllBelow most (c.1.step.numbers ++ c.1.st
 -- Where it has finished, and all is below a number that its pointers have at the start and that was counted from there on, so is each
 -- number of the plan of the batches that were taken.
 abbrev pub CourseIsCounted : Type 0
-CourseIsCounted = (most : ℕ) (g : Write) (stream eof : Eof) (notes : List Note) (x : Point) (h : HasComeTo g stream eof notes x) → CanBegin (outset_from stream eof) (length x.taken)
-    → is_finished x.machine ≡ true → stream.last < most → eof.last < most → AllBelow most (first_indices (form_of g) g.mark eof)
-    → CountedBelow most g (start_point g stream eof) notes x h.comes → AllBelow most (stream_plan g.setting g.way g.type g.mark (outset_from stream eof) x.taken true).numbers
+CourseIsCounted = (most : ℕ) (g : Write) (names : Names) (eof : Eof) (notes : List Note) (x : Point) (h : HasComeTo g names eof notes x) → CanBegin (outset_from names eof) (length x.taken)
+    → is_finished x.machine ≡ true → names_last names < most → eof.last < most → AllBelow most (first_indices (form_of g) g.mark eof)
+    → CountedBelow most g (start_point g names eof) notes x h.comes → AllBelow most (stream_plan g.setting g.way g.type g.mark (outset_from names eof) x.taken true).numbers
 
 -- so they fit 64 bits, where all that was counted does
 abbrev pub CourseFits : Type 0
-CourseFits = (g : Write) (stream eof : Eof) (notes : List Note) (x : Point) (h : HasComeTo g stream eof notes x) → CanBegin (outset_from stream eof) (length x.taken)
-    → is_finished x.machine ≡ true → stream.last < 2 ^ 64 → eof.last < 2 ^ 64 → AllBelow (2 ^ 64) (first_indices (form_of g) g.mark eof)
-    → CountedBelow (2 ^ 64) g (start_point g stream eof) notes x h.comes → Fit (stream_plan g.setting g.way g.type g.mark (outset_from stream eof) x.taken true).numbers
+CourseFits = (g : Write) (names : Names) (eof : Eof) (notes : List Note) (x : Point) (h : HasComeTo g names eof notes x) → CanBegin (outset_from names eof) (length x.taken)
+    → is_finished x.machine ≡ true → names_last names < 2 ^ 64 → eof.last < 2 ^ 64 → AllBelow (2 ^ 64) (first_indices (form_of g) g.mark eof)
+    → CountedBelow (2 ^ 64) g (start_point g names eof) notes x h.comes → Fit (stream_plan g.setting g.way g.type g.mark (outset_from names eof) x.taken true).numbers

@@ -1,7 +1,8 @@
 -- What holds of the next step, wherever a run stands.
 use Rattle.std.specs.Prelude.{◌≡◌, ◌^◌, ◌<◌, ◌≤◌, ℕ, List, [], ◌∷◌, ◌++◌, length, Some, None, IsTrue}
+use Rattle.vx_named_tasks.specs.Names.{Names}
 use Rattle.vx_path.specs.Lists.{In}
-use Rattle.vx_path.specs.Path.{Eof, root_eof}
+use Rattle.vx_path.specs.Path.{root_eof}
 use Rattle.vx_machine_state.specs.Images.{Careful}
 use Rattle.vx_tasks.specs.Run.{Note, nth}
 use Rattle.vx_plan.specs.PlanData.{Pair, Plan}
@@ -25,7 +26,7 @@ IdleIsFinished = (g : Write) (first : ℕ) (seen : List Note) (x : Stand) → Ca
 -- a step that finds a chunk of another type is the one in which the source reads, and is told nothing
 abbrev pub MisfitIsRead : Type 0
 MisfitIsRead = (g : Write) (first : ℕ) (seen : List Note) (x : Stand) (a : Answer) (k : ℕ) (w : WholeStep) → UnderwayAt g first seen x
-    → nth (ready_steps g first x.history a x.machine) k ≡ Some w → IsTrue w.misfit → (e : Eof) × (x.machine.phase ≡ reading e) × (k ≡ 0) × (a ≡ unasked)
+    → nth (ready_steps g first x.history a x.machine) k ≡ Some w → IsTrue w.misfit → (ns : Names) × (x.machine.phase ≡ reading ns) × (k ≡ 0) × (a ≡ unasked)
 
 -- what was appended are the first of the plan's pairs, in order of path: of the batches taken, of what the next step is told, and of
 -- those that may still come

@@ -3,7 +3,7 @@
 #![tactic(auto)]
 
 ghost use Rattle.vx_machine_runs.specs.Runs.{StartIsUnderway, StepIsUnderway, RunByIsUnderway, PlacesArePicks, RunIsUnderway, ScheduleIsFree, NumberIsFree};
-ghost use Rattle.vx_machine_runs.specs.Courses.{CourseIsUnderway, CourseIsReady, CourseIsFront, CourseGoesOn, CourseEnds, CourseHasCause, CourseMisfitIsRead, CourseStartHasCause, CourseIsCounted, CourseFits};
+ghost use Rattle.vx_machine_runs.specs.Courses.{CourseIsUnderway, CourseIsReady, CourseIsFront, CourseGoesOn, CourseHasNames, CourseEnds, CourseHasCause, CourseMisfitIsRead, CourseStartHasCause, CourseIsCounted, CourseFits};
 ghost use Rattle.vx_machine_runs.specs.Ends.{StaysReady, EndsWhole, StepsHaveCause};
 ghost use Rattle.vx_machine_runs.specs.Steps.{IdleIsFinished, MisfitIsRead, HistoryIsFront, AppendIsOneMore, PastIsCaused, StartIsCaused, ValidIsSound, ValidStarts};
 ghost use Rattle.vx_machine_runs.specs.Answers.{AskedBeforeEnd, AnswersAreNoted, TakenAreTyped, TakenAreWhole};
@@ -25,12 +25,13 @@ pub fn runs()
 }
 
 /// Wherever a run begins and over whatever sink, also one that others use too: it is under way, something is ready until the machine has
-/// finished, what it has appended are the first pairs of the plan, and each step leaves one act less.
+/// finished, what it has appended are the first pairs of the plan, each step leaves one act less, and each batch takes one of its paths.
 pub fn courses()
     ensures underway { CourseIsUnderway }
     ensures ready { CourseIsReady }
     ensures front { CourseIsFront }
     ensures on { CourseGoesOn }
+    ensures names { CourseHasNames }
 {
     vx_machine_promises::anywhere();
 }

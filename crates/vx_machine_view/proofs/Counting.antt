@@ -264,10 +264,10 @@ module _ (s : Setting) (number : List ℕ → ℕ) (next : ℕ) (all : List (Lis
 
 -- the source joins nothing
 pub source_joins : (a : Answer) (p : Phase) (root : Tasks) → (source_step a p root).joined ≡ []
-source_joins unasked (reading e) root = refl
-source_joins (came b) (reading e) root = refl
-source_joins over (reading e) root = refl
-source_joins a (giving e i) root = refl
+source_joins unasked (reading ns) root = refl
+source_joins (came b) (reading ns) root = refl
+source_joins over (reading ns) root = refl
+source_joins a (giving ns i) root = refl
 source_joins a closing root = refl
 source_joins a finished root = refl
 

@@ -3,11 +3,10 @@ use Rattle.std.proofs.Common.{◌≡◌, ◌&&◌, ◌||◌, ◌⊎◌, ◌∷�
 use Rattle.vx_layout_spec.specs.LayoutTree.{renamed}
 use Rattle.vx_model.specs.ChunkData.{ChunkData}
 use Rattle.vx_model.specs.Ty.{Ty}
-use Rattle.vx_path.specs.Path.{Eof}
-use Rattle.vx_named_tasks.specs.Names.{Outset, root_outset}
+use Rattle.vx_named_tasks.specs.Names.{Names, Outset, root_outset}
 use Rattle.vx_plan.specs.PlanData.{Setting}
 use Rattle.vx_machine_turns.specs.Acts.{Seed, Act, shape_in, passes}
-use Rattle.vx_machine_turns.specs.Source.{source_acts, seed_at}
+use Rattle.vx_machine_turns.specs.Source.{named_acts, seed_at}
 use Rattle.vx_machine_turns.specs.Readings.{shaped, unread, layout_reading}
 use Rattle.vx_machine_turns.specs.Fuels.{Fuel, spent, fuel, less}
 use Rattle.vx_machine_steps.specs.Tree.{Tree, Leaf, Work, ahead, further, read}
@@ -52,15 +51,15 @@ moves_shows g number f m t st w = moves_shows_at g root_outset number f m t st w
 
 -- ---- the end
 
-no_acts : (e : Eof) (bs : List ChunkData) (fits : Bool) → is_nil (source_acts e bs fits) ≡ false
-no_acts e [] true = refl
-no_acts e [] false = refl
-no_acts e (b ∷ bs) fits = refl
+no_acts : (ns : Names) (bs : List ChunkData) (fits : Bool) → is_nil (named_acts ns bs fits) ≡ false
+no_acts ns [] true = refl
+no_acts ns [] false = refl
+no_acts ns (b ∷ bs) fits = refl
 
 -- whether the source has done all
 phase_over : (p : Phase) (f : Future) → is_nil (phase_acts p f) ≡ has_closed p
-phase_over (reading e) f = no_acts e f.later f.fits
-phase_over (giving e i) f = refl
+phase_over (reading ns) f = no_acts ns f.later f.fits
+phase_over (giving ns i) f = refl
 phase_over closing f = refl
 phase_over finished f = refl
 
@@ -148,8 +147,8 @@ finish_shows_at o g number f m t st w = by m.phase refl ∙ sym (ap all_over w.t
         (left_nil (holding (source_from g o w.past (phase_acts m.phase f)) ++ all_paths w.kids) [] (sym (ap all_paths w.tree_is) ∙ none))
 
     by : (p : Phase) → m.phase ≡ p → (has_closed m.phase && is_done m.root) ≡ (has_closed m.phase && all_over w.kids)
-    by (reading e) q = ap (λ z. has_closed z && is_done m.root) q ∙ sym (ap (λ z. has_closed z && all_over w.kids) q)
-    by (giving e i) q = ap (λ z. has_closed z && is_done m.root) q ∙ sym (ap (λ z. has_closed z && all_over w.kids) q)
+    by (reading ns) q = ap (λ z. has_closed z && is_done m.root) q ∙ sym (ap (λ z. has_closed z && all_over w.kids) q)
+    by (giving ns i) q = ap (λ z. has_closed z && is_done m.root) q ∙ sym (ap (λ z. has_closed z && all_over w.kids) q)
     by closing q = ap (λ z. has_closed z && is_done m.root) q ∙ sym (ap (λ z. has_closed z && all_over w.kids) q)
     by finished q = ap (λ z. has_closed m.phase && z)
         (root_done g.setting number (root_depth g) (seed_at (form_of g) g.mark o) g.type m.root w.kids w.one w.root (open_root finished q refl))
@@ -192,8 +191,8 @@ layout_shows_at o g number f m t st w over =
     ∙ ap laid (sym w.tree_is) ∙ sym (read_laid g.setting (depth g) 0 t over))
   where
     ended : (p : Phase) → PhaseShape w.past p → has_closed p ≡ true → shape_in w.past ≡ Some passes
-    ended (reading e) h c = cc
-    ended (giving e i) h c = cc
+    ended (reading ns) h c = cc
+    ended (giving ns i) h c = cc
     ended closing h c = h
     ended finished h c = h
 

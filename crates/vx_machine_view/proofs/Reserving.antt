@@ -18,7 +18,7 @@ use Rattle.vx_plan.specs.DictNode.{is_dictionary}
 use Rattle.vx_tasks.specs.Task.{Kind, Free, TakeEnd}
 use Rattle.vx_tasks.specs.Task.Prompt.{Call}
 use Rattle.vx_tasks.specs.Runs.{first_batch}
-use Rattle.vx_named_tasks.specs.Names.{Outset, root_outset}
+use Rattle.vx_named_tasks.specs.Names.{Names, onward, Outset, root_outset}
 use Rattle.vx_machine_turns.specs.Forms.{Form, Forms, flat_form, chunked_form, grouped_form, compressed_form, dict_form, zoned_form, no_struct_form, struct_form, list_form, no_forms, form_then}
 use Rattle.vx_machine_turns.specs.Grouped.{block_grouper}
 use Rattle.vx_machine_turns.specs.Collected.{collect_rest}
@@ -496,17 +496,17 @@ steps_reserve s number next all d q j cs t w sh i = reserve s number next all d 
 
 -- ---- the whole machine
 
-pub start_reserves_at : (stream eof : Eof) → StartReservesAt stream eof
-start_reserves_at stream eof f m = started_reserved f m _ _ [] false
+pub start_reserves_at : (names : Names) (eof : Eof) → StartReservesAt names eof
+start_reserves_at names eof f m = started_reserved f m _ _ [] false
 
-pub start_reserves : StartReservesAt first_batch root_eof
-start_reserves = start_reserves_at first_batch root_eof
+pub start_reserves : StartReservesAt (onward first_batch) root_eof
+start_reserves = start_reserves_at (onward first_batch) root_eof
 
 source_even : (a : Answer) (p : Phase) (root : Tasks) → reserved_by (source_step a p root).after.root + (source_step a p root).lowers ≡ reserved_by root + (source_step a p root).raises
-source_even unasked (reading e) root = refl
-source_even (came b) (reading e) root = refl
-source_even over (reading e) root = refl
-source_even a (giving e i) root = ap (λ z. z + 0) (give_reserved 0 i root)
+source_even unasked (reading ns) root = refl
+source_even (came b) (reading ns) root = refl
+source_even over (reading ns) root = refl
+source_even a (giving ns i) root = ap (λ z. z + 0) (give_reserved 0 i root)
 source_even a closing root = ap (λ z. z + 0) (shut_reserved root)
 source_even a finished root = refl
 

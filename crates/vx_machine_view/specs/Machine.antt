@@ -3,6 +3,7 @@ use Rattle.std.specs.Prelude.{ℕ, ◌+◌, ◌&&◌, cond, Bool, true, false, L
 use Rattle.vx_path.specs.Path.{Eof, root_eof, eof_path, next}
 use Rattle.vx_tasks.specs.Task.{Kind, Free, Put, Batch, End, Close}
 use Rattle.vx_tasks.specs.Runs.{first_batch}
+use Rattle.vx_named_tasks.specs.Names.{Names, onward, next_name, later_names, held_names, names_index}
 use Rattle.vx_plan.specs.PlanData.{Setting, Item, Pair, What}
 use Rattle.vx_machine_turns.specs.Forms.{Form}
 use Rattle.vx_machine_turns.specs.Grouped.{group_kept}
@@ -17,10 +18,10 @@ use Rattle.vx_machine_state.specs.Done.{is_done}
 
 -- what the source does next
 pub data Phase : Type 0 where
-  -- it reads the batch of this path
-  reading : Eof → Phase
-  -- it puts this batch on the root's queue
-  giving : Eof → Item → Phase
+  -- it reads the batch of the first of these paths
+  reading : Names → Phase
+  -- it puts this batch on the root's queue; the later ones have these paths
+  giving : Names → Item → Phase
   -- it closes the root's queue
   closing : Phase
   finished : Phase
@@ -29,18 +30,17 @@ pub record Machine : Type 0 where
   pub phase : Phase
   pub root : Tasks
 
--- at the start, where the form's start doesn't refuse: the batches get their paths from the first pointer on, and the other is the eof
--- pointer behind them
-abbrev pub start_from : Eof → Eof → Form → Bool → Machine
-start_from stream eof f m = record { phase = reading stream; root = started_task f m (1 ∷ []) eof [] false }
+-- at the start, where the form's start doesn't refuse: the batches get these paths, and behind them all stands the eof pointer
+abbrev pub start_from : Names → Eof → Form → Bool → Machine
+start_from names eof f m = record { phase = reading names; root = started_task f m (1 ∷ []) eof [] false }
 
 -- of a whole write
 abbrev pub start : Form → Bool → Machine
-start f m = start_from first_batch root_eof f m
+start f m = start_from (onward first_batch) root_eof f m
 
 abbrev pub may_source : Phase → Tasks → Bool
-may_source (reading e) root = true
-may_source (giving e i) root = has_room 0 root
+may_source (reading ns) root = true
+may_source (giving ns i) root = has_room 0 root
 may_source closing root = true
 may_source finished root = false
 
@@ -62,14 +62,14 @@ abbrev pub source_did : Kind → Phase → Tasks → WholeStep
 source_did k phase root = record { name = 0 ∷ []; kind = k; refusal = None; misfit = false; numbers = []; indices = []; wrote = []; joined = []; raises = 0; lowers = 0; after = record { phase = phase; root = root } }
 
 -- what the source reads is told: a batch of the type, or the end; where nothing is told, it is of another type, and so refused
-abbrev pub read_batch : Answer → Eof → Tasks → WholeStep
-read_batch (came b) e root = record (source_did (Free Batch) (giving (next e) (eof_path e, b)) root) { indices = (e.last + 1) ∷ [] }
-read_batch over e root = source_did (Free End) closing root
-read_batch unasked e root = record (source_did (Free Batch) (reading e) root) { misfit = true }
+abbrev pub read_batch : Answer → Names → Tasks → WholeStep
+read_batch (came b) ns root = record (source_did (Free Batch) (giving (later_names ns) (next_name ns, b)) root) { indices = names_index ns }
+read_batch over ns root = source_did (Free End) closing root
+read_batch unasked ns root = record (source_did (Free Batch) (reading ns) root) { misfit = true }
 
 abbrev pub source_step : Answer → Phase → Tasks → WholeStep
-source_step a (reading e) root = read_batch a e root
-source_step a (giving e i) root = source_did (Put 0) (reading e) (give 0 i root)
+source_step a (reading ns) root = read_batch a ns root
+source_step a (giving ns i) root = source_did (Put 0) (reading ns) (give 0 i root)
 source_step a closing root = source_did (Free Close) finished (shut_all root)
 source_step a finished root = source_did (Free Close) finished root
 
@@ -84,8 +84,8 @@ whole_steps s all number a m = cond (may_source m.phase m.root) (source_step a m
 
 abbrev pub has_closed : Phase → Bool
 has_closed finished = true
-has_closed (reading e) = false
-has_closed (giving e i) = false
+has_closed (reading ns) = false
+has_closed (giving ns i) = false
 has_closed closing = false
 
 abbrev pub is_finished : Machine → Bool
@@ -132,8 +132,8 @@ held_by no_tasks = []
 held_by (task_then c ks r) = (map (λ i. i.0) c.inbox ++ ((next_ids c.todo ++ mind_ids c.mind) ++ held_by ks)) ++ held_by r
 
 abbrev pub phase_ids : Phase → List (List ℕ)
-phase_ids (reading e) = eof_path e ∷ []
-phase_ids (giving e i) = i.0 ∷ eof_path e ∷ []
+phase_ids (reading ns) = held_names ns
+phase_ids (giving ns i) = i.0 ∷ held_names ns
 phase_ids closing = []
 phase_ids finished = []
 

@@ -2,7 +2,7 @@
 use Rattle.std.specs.Prelude.{◌≡◌, ◌+◌, ℕ, Bool, List, IsTrue}
 use Rattle.vx_path.specs.Lists.{In}
 use Rattle.vx_path.specs.Path.{Eof}
-use Rattle.vx_named_tasks.specs.Names.{Outset}
+use Rattle.vx_named_tasks.specs.Names.{Names, Outset}
 use Rattle.vx_plan.specs.PlanData.{Setting}
 use Rattle.vx_machine_turns.specs.Forms.{Form}
 use Rattle.vx_machine_turns.specs.Acts.{Seed}
@@ -24,8 +24,8 @@ StepsReserve = (s : Setting) (number : List ℕ → ℕ) (next : ℕ) (all : Lis
 -- ---- of the whole machine
 
 -- nothing at the start
-abbrev pub StartReservesAt : Eof → Eof → Type 0
-StartReservesAt stream eof = (f : Form) (m : Bool) → reserved_by (start_from stream eof f m).root ≡ 0
+abbrev pub StartReservesAt : Names → Eof → Type 0
+StartReservesAt names eof = (f : Form) (m : Bool) → reserved_by (start_from names eof f m).root ≡ 0
 
 abbrev pub WholeReservesAt : Outset → Type 0
 WholeReservesAt o = (g : Write) (number : List ℕ → ℕ) (next : ℕ) (all : List (List ℕ)) (a : Answer) (f : Future) (m : Machine) (t : Tree) (w : WholeStep) → ShowsMachineAt g o number m f t

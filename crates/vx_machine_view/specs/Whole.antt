@@ -3,12 +3,12 @@ use Rattle.std.specs.Prelude.{◌≡◌, ℕ, zero, suc, Bool, true, false, List
 use Rattle.vx_model.specs.ChunkData.{ChunkData, piece_type, is_sound}
 use Rattle.vx_model.specs.Ty.{Ty}
 use Rattle.vx_path.specs.Lists.{In}
-use Rattle.vx_path.specs.Path.{Eof, eof_path}
+use Rattle.vx_path.specs.Path.{Eof}
 use Rattle.vx_layout_spec.specs.LayoutTree.{renamed}
 use Rattle.vx_machine_state.specs.Images.{Careful}
 use Rattle.vx_tasks.specs.Task.{Append}
 use Rattle.vx_tasks.specs.Run.{nth}
-use Rattle.vx_named_tasks.specs.Names.{onward, Outset, root_outset}
+use Rattle.vx_named_tasks.specs.Names.{Names, held_names, Outset, root_outset}
 use Rattle.vx_strategy_spec.specs.Walk.{walk}
 use Rattle.vx_plan.specs.PlanData.{Setting}
 use Rattle.vx_plan.specs.SourcePlan.{start_fault}
@@ -16,7 +16,7 @@ use Rattle.vx_machine_turns.specs.Forms.{Form, form_nodes, form_type}
 use Rattle.vx_machine_turns.specs.Locals.{source_local}
 use Rattle.vx_machine_turns.specs.Acts.{Act, put_item, close_queues, passes, shape_in, refuses, written_by}
 use Rattle.vx_machine_turns.specs.Readings.{layout_reading}
-use Rattle.vx_machine_turns.specs.Source.{source_acts, seed_at}
+use Rattle.vx_machine_turns.specs.Source.{named_acts, seed_at}
 use Rattle.vx_machine_turns.specs.Fuels.{Fuel, less}
 use Rattle.vx_machine_steps.specs.Tree.{Head, Tree, Leaf, Work, read, opened}
 use Rattle.vx_machine_steps.specs.Moves.{holding, all_paths, all_over, TreeMove, tree_moves}
@@ -34,22 +34,22 @@ form_of g = walk form_nodes g.way g.type
 
 -- what the source still does where it stands, and this comes of it
 abbrev pub phase_acts : Phase → Future → List Act
-phase_acts (reading e) f = source_acts e f.later f.fits
-phase_acts (giving e i) f = record (put_item 0 i) { holds = eof_path e ∷ [] } ∷ source_acts e f.later f.fits
+phase_acts (reading ns) f = named_acts ns f.later f.fits
+phase_acts (giving ns i) f = record (put_item 0 i) { holds = held_names ns } ∷ named_acts ns f.later f.fits
 phase_acts closing f = close_queues (0 ∷ []) ∷ []
 phase_acts finished f = []
 
 -- the batch that it is to put is of the type
 abbrev pub PhaseTyped : Ty → Phase → Type 0
-PhaseTyped t (reading e) = Unit {0}
-PhaseTyped t (giving e i) = Typed t i.1
+PhaseTyped t (reading ns) = Unit {0}
+PhaseTyped t (giving ns i) = Typed t i.1
 PhaseTyped t closing = Unit {0}
 PhaseTyped t finished = Unit {0}
 
 -- once it has ended, it has told that it hands the root's layout on
 abbrev pub PhaseShape : List Act → Phase → Type 0
-PhaseShape past (reading e) = shape_in past ≡ None
-PhaseShape past (giving e i) = shape_in past ≡ None
+PhaseShape past (reading ns) = shape_in past ≡ None
+PhaseShape past (giving ns i) = shape_in past ≡ None
 PhaseShape past closing = shape_in past ≡ Some passes
 PhaseShape past finished = shape_in past ≡ Some passes
 
@@ -89,25 +89,25 @@ ShowsMachine g number m f t = ShowsMachineAt g root_outset number m f t
 
 -- ---- the start
 
--- with these pointers
-abbrev pub outset_from : Eof → Eof → Outset
-outset_from stream eof = record { names = onward stream; eof = eof }
+-- with these paths and this pointer
+abbrev pub outset_from : Names → Eof → Outset
+outset_from names eof = record { names = names; eof = eof }
 
 -- where its start refuses nothing
-abbrev pub StartShowsAt : Eof → Eof → Type 0
-StartShowsAt stream eof = (g : Write) (number : List ℕ → ℕ) (f : Future) → start_fault g.setting g.way g.type g.mark ≡ None
-    → ShowsMachineAt g (outset_from stream eof) number (start_from stream eof (form_of g) g.mark) f (begin_at g (outset_from stream eof) [] f)
+abbrev pub StartShowsAt : Names → Eof → Type 0
+StartShowsAt names eof = (g : Write) (number : List ℕ → ℕ) (f : Future) → start_fault g.setting g.way g.type g.mark ≡ None
+    → ShowsMachineAt g (outset_from names eof) number (start_from names eof (form_of g) g.mark) f (begin_at g (outset_from names eof) [] f)
 
 -- ---- steps
 
 -- The answer is that of the step at this place: only the first step asks, where the source reads. It is told a chunk of the type,
 -- or the end; or it is told nothing, where what comes next is of another type.
 abbrev pub Asks : Ty → Future → Phase → ℕ → Answer → Type 0
-Asks t f (reading e) zero unasked = (f.later ≡ []) × (f.fits ≡ false)
-Asks t f (reading e) zero (came b) = Typed t b
-Asks t f (reading e) zero over = Unit {0}
-Asks t f (reading e) (suc k) a = a ≡ unasked
-Asks t f (giving e i) k a = a ≡ unasked
+Asks t f (reading ns) zero unasked = (f.later ≡ []) × (f.fits ≡ false)
+Asks t f (reading ns) zero (came b) = Typed t b
+Asks t f (reading ns) zero over = Unit {0}
+Asks t f (reading ns) (suc k) a = a ≡ unasked
+Asks t f (giving ns i) k a = a ≡ unasked
 Asks t f closing k a = a ≡ unasked
 Asks t f finished k a = a ≡ unasked
 

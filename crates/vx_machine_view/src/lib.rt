@@ -9,7 +9,7 @@ ghost use Rattle.vx_machine_state.specs.Images.{ImagesAreCareful};
 ghost use Rattle.vx_machine_view.specs.Suited.{FormsAreSuited};
 ghost use Rattle.vx_machine_view.specs.Places.{WholeIsReady, SourcePlace, RootPlace};
 ghost use Rattle.vx_machine_view.specs.Underway.{ReachedStands, AppendIsNext, WriteMoves, WriteSteps, WriteReady, WriteEnds, WriteJoins};
-ghost use Rattle.vx_named_tasks.specs.Names.{Outset};
+ghost use Rattle.vx_named_tasks.specs.Names.{Names, Outset};
 ghost use Rattle.vx_path.specs.Path.{Eof};
 ghost use Rattle.vx_machine_view.specs.Whole.{StartShowsAt, StepShowsAt, ReadyShowsAt, HeldShowsAt, FinishShowsAt, LayoutShowsAt, SoundIsTyped, LeastAgrees};
 
@@ -27,7 +27,7 @@ pub fn places()
 
 /// The whole machine shows a state from its start on, wherever it begins, step by step, for each future of its source.
 pub fn steps()
-    ensures start { (stream eof : Eof) → StartShowsAt stream eof }
+    ensures start { (names : Names) (eof : Eof) → StartShowsAt names eof }
     ensures step { (o : Outset) → StepShowsAt o }
     ensures ready { (o : Outset) → ReadyShowsAt o }
 {}
@@ -41,7 +41,7 @@ pub fn ends()
 
 /// What tasks have reserved in the tracker: each step changes it by what it adds to the tracker and takes from it.
 pub fn reserves()
-    ensures start { (stream eof : Eof) → StartReservesAt stream eof }
+    ensures start { (names : Names) (eof : Eof) → StartReservesAt names eof }
     ensures steps { StepsReserve }
     ensures whole { (o : Outset) → WholeReservesAt o }
     ensures finish { FinishReserves }

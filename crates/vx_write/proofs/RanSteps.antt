@@ -8,6 +8,7 @@ use Rattle.vx_model.specs.Distinct.{first_repeat}
 use Rattle.vx_layout_spec.specs.Real.{Whole, SameRows}
 use Rattle.vx_setting.specs.Setting.{RealKeeps}
 use Rattle.vx_path.specs.Path.{Eof, inside, next, root_eof}
+use Rattle.vx_named_tasks.specs.Names.{onward}
 use Rattle.vx_sequence.specs.Universe.{Active, root, only}
 use Rattle.vx_strategy_spec.specs.StrategyData.{StrategyData}
 use Rattle.vx_tasks.specs.Runs.{first_batch}
@@ -47,9 +48,9 @@ all_held u v z e d stream s h m n = λ p. omega (arith, h p, m.balance p, n.bala
 module _ (ctx : LayoutWriterContext) (image : ℕ → ChunkData → ChunkData) (w : StrategyData) (t : Ty) (schedule : List ℕ) (to_come : Option (List ChunkData)) (x : Outlet) (trace : List Step) where
   module _ (e d stream : Eof) (u : Ty) (m : Machine) (is : e ≡ root) (goes : d ≡ next e) (below : stream ≡ inside e) (type : u ≡ t) where
     -- the machine begins there
-    begins : m ≡ machine_at stream (form_at w u) (is_marked ctx) d → m ≡ start (form_at w t) (is_marked ctx)
-    begins h = h ∙ ap (λ z. machine_at z (form_at w u) (is_marked ctx) d) (below ∙ ap inside is) ∙ ap (λ z. machine_at first_batch (form_at w u) (is_marked ctx) z) (goes ∙ ap next is)
-        ∙ ap (λ z. machine_at first_batch (form_at w z) (is_marked ctx) root_eof) type
+    begins : m ≡ machine_at (onward stream) (form_at w u) (is_marked ctx) d → m ≡ start (form_at w t) (is_marked ctx)
+    begins h = h ∙ ap (λ z. machine_at (onward z) (form_at w u) (is_marked ctx) d) (below ∙ ap inside is) ∙ ap (λ z. machine_at (onward first_batch) (form_at w u) (is_marked ctx) z) (goes ∙ ap next is)
+        ∙ ap (λ z. machine_at (onward first_batch) (form_at w z) (is_marked ctx) root_eof) type
 
     starts : IsAllowed (allowed_in ctx) (form_at w u) (is_marked ctx) → Counted d (first_indices (form_at w u) (is_marked ctx) d) → IsStarted (allowed_in ctx) w t (is_marked ctx)
     starts a c = record {
@@ -59,7 +60,7 @@ module _ (ctx : LayoutWriterContext) (image : ℕ → ChunkData → ChunkData) (
 
     -- it ran
     pub has_run : (y z v : Outlet) (to_come_now : Option (List ChunkData)) (must : ℕ → Type 0) (r : Result (Option Layout) WriteError) → y ≡ x → z ≡ y → IsAllowed (allowed_in ctx) (form_at w u) (is_marked ctx)
-        → Counted d (first_indices (form_at w u) (is_marked ctx) d) → m ≡ machine_at stream (form_at w u) (is_marked ctx) d
+        → Counted d (first_indices (form_at w u) (is_marked ctx) d) → m ≡ machine_at (onward stream) (form_at w u) (is_marked ctx) d
         → MatchResult r (RunDone ctx image t schedule (at m to_come z) trace to_come_now v) (RunTold ctx image t schedule (at m to_come z) trace to_come_now v must)
         → AnsweredTold ctx image w t schedule to_come x trace to_come_now v must r
     has_run y z v to_come_now must (Ok l) same again a c h r = (

@@ -1,6 +1,6 @@
 -- A batch of another type is found where the source reads.
 use Rattle.std.proofs.Common.{◌≡◌, ◌+◌, ◌∙◌, ℕ, true, length, refl, sym, ap, subst, inl, inr, Some, None}
-use Rattle.vx_path.specs.Path.{Eof}
+use Rattle.vx_named_tasks.specs.Names.{Names}
 use Rattle.vx_tasks.specs.Run.{nth}
 use Rattle.vx_plan.specs.SourcePlan.{start_fault}
 use Rattle.vx_machine_turns.specs.Planned.{StartFaultsAgree}
@@ -39,7 +39,7 @@ misfits_are_read run agree ctx image w t schedule to_come to_come_now borrow fir
     no_memory : BatchType c ≡ OutOfMemory → ⊥
     no_memory e = cc
 
-    reads : (k : ℕ) (told : Answer) → (d : Eof) × (o.stand.machine.phase ≡ reading d) × (k ≡ 0) × (told ≡ unasked) → reads_at r.end.machine.phase k ≡ true
+    reads : (k : ℕ) (told : Answer) → (d : Names) × (o.stand.machine.phase ≡ reading d) × (k ≡ 0) × (told ≡ unasked) → reads_at r.end.machine.phase k ≡ true
     reads k told (d, p, z, q) = ap (λ (m : Machine). reads_at m.phase k) o.same.machine_is ∙ ap (λ v. reads_at v k) p ∙ ap (λ v. reads_at (reading d) v) z
 
     refused : (k : ℕ) → StepRefused (setting_of ctx image) (machine_ids r.end.machine) k (tracker_by ctx r.end.machine) t r.end.to_come to_come_now r.end.outlet (first + length o.stand.history) r.end.machine (BatchType c)

@@ -3,7 +3,7 @@ use Rattle.std.proofs.Common.{◌≡◌, ◌+◌, ◌%◌, ◌^◌, ◌<◌, ◌
 use Rattle.std.proofs.lemmas.Bool.{true≢false}
 use Rattle.vx_model.specs.ChunkData.{ChunkData}
 use Rattle.vx_path.specs.Lists.{In}
-use Rattle.vx_path.specs.Path.{Eof}
+use Rattle.vx_named_tasks.specs.Names.{Names}
 use Rattle.vx_tasks.specs.Task.{Kind, Free, Take, TakeEnd, Put, Append, Join}
 use Rattle.vx_tasks.specs.Run.{Note, nth, later_picks}
 use Rattle.vx_plan.specs.PlanData.{Setting, Pair}
@@ -95,7 +95,7 @@ module _ (w : WholeStep) (m : TreeMove) (same : SameAct w m) (o : Outlet) (mine 
     is_own (Stopped by name) far k h = absurd (mine h.1)
 
   -- of one in which the source reads, and no more of the type comes
-  pub own_read : (d : Eof) (root : Tasks) → w ≡ source_step unasked (reading d) root → heard ≡ false → IsRead m.act heard
+  pub own_read : (d : Names) (root : Tasks) → w ≡ source_step unasked (reading d) root → heard ≡ false → IsRead m.act heard
   own_read d root is unheard = (sym same.kind ∙ ap (λ (z : WholeStep). z.kind) is, sym same.misfit ∙ ap (λ (z : WholeStep). z.misfit) is, unheard)
 
 -- ---- the act that is picked

@@ -6,7 +6,8 @@ use Rattle.vx_model.specs.Ty.{Ty}
 use Rattle.vx_model.specs.ChunkData.{ChunkData}
 use Rattle.vx_fault.specs.Told.{before_told, then_told, NoneTold, answers_in}
 use Rattle.vx_path.specs.Lists.{In}
-use Rattle.vx_path.specs.Path.{Eof, root_eof}
+use Rattle.vx_path.specs.Path.{root_eof}
+use Rattle.vx_named_tasks.specs.Names.{Names}
 use Rattle.vx_tasks.specs.Task.{Forest}
 use Rattle.vx_tasks.specs.Run.{nth, trace, work}
 use Rattle.vx_tasks.proofs.Picks.{nth_there}
@@ -123,7 +124,7 @@ nothing_told closing k t before now e n h = h.0
 nothing_told finished k t before now e n h = h.0
 
 -- where it failed, it read
-fault_reads : (p : Phase) (k : ℕ) (t : Ty) (before now : Option (List ChunkData)) (a : Answer) → TellsRefused p k t before now SourceFault a → (d : Eof) × (p ≡ reading d) × (k ≡ 0) × (a ≡ unasked)
+fault_reads : (p : Phase) (k : ℕ) (t : Ty) (before now : Option (List ChunkData)) (a : Answer) → TellsRefused p k t before now SourceFault a → (d : Names) × (p ≡ reading d) × (k ≡ 0) × (a ≡ unasked)
 fault_reads (reading d) zero t before now unasked h = (d, refl, refl, refl)
 fault_reads (reading d) (suc k) t before now unasked h = absurd h.1
 fault_reads (giving d i) k t before now unasked h = absurd h.1
@@ -237,7 +238,7 @@ module _ (counts : ℕ) (w : WholeStep) (o : Outlet) (fits : w.misfit ≡ false)
 
 -- ---- the step in which the source reads
 
-read_is : (s : Setting) (all : List (List ℕ)) (number : ℕ) (a : Answer) (m : Machine) (d : Eof) (w : WholeStep) → m.phase ≡ reading d → nth (whole_steps s all number a m) 0 ≡ Some w
+read_is : (s : Setting) (all : List (List ℕ)) (number : ℕ) (a : Answer) (m : Machine) (d : Names) (w : WholeStep) → m.phase ≡ reading d → nth (whole_steps s all number a m) 0 ≡ Some w
     → w ≡ source_step a (reading d) m.root
 read_is s all number a m d w is at =
     some_same w (source_step a m.phase m.root) (sym at ∙ source_place s all number a m (ap (λ z. may_source z m.root) is)) ∙ ap (λ z. source_step a z m.root) is
@@ -357,7 +358,7 @@ module _ (ctx : LayoutWriterContext) (image : ℕ → ChunkData → ChunkData) (
       (λ k. alone.typed) (λ f may. front h first o.notes x unasked f tt may u) (begins unasked tt some) (record { begin = begun unasked tt some; all = λ i. absurd (plain i) }) (all_asked e n) (λ f may. c (Passes g x.taken f steps) (planned g x.taken f)) there
 
   -- where it reads, the end isn't told
-  unheard : (d : Eof) → x.machine.phase ≡ reading d → x.heard ≡ false
+  unheard : (d : Names) → x.machine.phase ≡ reading d → x.heard ≡ false
   unheard d is = asked_before_end g first o.notes x over 0 o.led (subst (λ z. Asking z 0 over) (sym is) tt)
 
   -- nobody else uses the sink
@@ -369,7 +370,7 @@ module _ (ctx : LayoutWriterContext) (image : ℕ → ChunkData → ChunkData) (
     pick_at = pick ∙ ap (λ m. slice_index schedule (length steps) % ready_at m) o.same.machine_is
 
     -- where it reads and nothing more of the type comes, that is the act
-    read_there : (w : WholeStep) (d : Eof) → k ≡ 0 → nth (ready_steps h first x.history unasked x.machine) 0 ≡ Some w → x.machine.phase ≡ reading d → w ≡ source_step unasked (reading d) x.machine.root → (e : WriteError)
+    read_there : (w : WholeStep) (d : Names) → k ≡ 0 → nth (ready_steps h first x.history unasked x.machine) 0 ≡ Some w → x.machine.phase ≡ reading d → w ≡ source_step unasked (reading d) x.machine.root → (e : WriteError)
         → ((m : TreeMove) (n : ℕ) → IsRead m.act x.heard → IsOwn m n x.heard next e) → There x.taken x.heard e
     read_there w d z at p is e whose = inr (n.0, whose n.0.move n.0.counts (own_read w n.0.move n.2 y.outlet mine x.heard next d x.machine.root is (unheard d p)))
       where
@@ -380,7 +381,7 @@ module _ (ctx : LayoutWriterContext) (image : ℕ → ChunkData → ChunkData) (
         n = next_act h first o.notes x law u schedule steps o.shown unasked tt k w (subst (λ v. nth (ready_steps h first x.history unasked x.machine) v ≡ Some w) (sym z) at) asks pick_at
 
     -- the source told nothing where it read
-    read_halts : (w : WholeStep) (d : Eof) → k ≡ 0 → nth (ready_steps h first x.history unasked x.machine) 0 ≡ Some w → x.machine.phase ≡ reading d → w ≡ source_step unasked (reading d) x.machine.root → (e : WriteError) → ReadsNone y.to_come to_come_now e → SourceMay t e
+    read_halts : (w : WholeStep) (d : Names) → k ≡ 0 → nth (ready_steps h first x.history unasked x.machine) 0 ≡ Some w → x.machine.phase ≡ reading d → w ≡ source_step unasked (reading d) x.machine.root → (e : WriteError) → ReadsNone y.to_come to_come_now e → SourceMay t e
         → NoNumber e → Halting e
     read_halts w d z at p is SourceFault r m c = so_far SourceFault refl (λ i. i) some r (λ q p. tt) (read_there w d z at p is SourceFault (λ v q i. i))
     read_halts w d z at p is OutOfMemory r m c = so_far OutOfMemory refl (λ i. i) some r (λ q p. tt) (read_there w d z at p is OutOfMemory (λ v q i. tt))
@@ -489,7 +490,7 @@ module _ (ctx : LayoutWriterContext) (image : ℕ → ChunkData → ChunkData) (
       elsewhere : w.misfit ≡ false → IsElsewhere e
       elsewhere fits = by_error e tells
         where
-          read_none : (d : Eof) × (x.machine.phase ≡ reading d) × (k ≡ 0) × (told ≡ unasked) → w.misfit ≡ true
+          read_none : (d : Names) × (x.machine.phase ≡ reading d) × (k ≡ 0) × (told ≡ unasked) → w.misfit ≡ true
           read_none (d, p, z, a) = ap (λ (v : WholeStep). v.misfit) (read_is (setting_of ctx image) (machine_ids x.machine) (first + length x.history) unasked x.machine d w p (read_place z a))
 
           by_error : (e : WriteError) → TellsRefused x.machine.phase k t y.to_come to_come_now e told → IsElsewhere e
@@ -497,7 +498,7 @@ module _ (ctx : LayoutWriterContext) (image : ℕ → ChunkData → ChunkData) (
           by_error e r = tt
 
       -- a batch of another type
-      misfit_halts : (d : Eof) × (x.machine.phase ≡ reading d) × (k ≡ 0) × (told ≡ unasked) → Halting e
+      misfit_halts : (d : Names) × (x.machine.phase ≡ reading d) × (k ≡ 0) × (told ≡ unasked) → Halting e
       misfit_halts (d, p, z, a) =
           let r : ReadsNone y.to_come to_come_now e × SourceMay t e × NoNumber e
           = subst (λ v. TellsRefused v 0 t y.to_come to_come_now e unasked) p (subst (λ v. TellsRefused x.machine.phase v t y.to_come to_come_now e unasked) z (subst (TellsRefused x.machine.phase k t y.to_come to_come_now e) a tells)) in

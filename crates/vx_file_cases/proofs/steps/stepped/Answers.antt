@@ -12,4 +12,5 @@ pub steps-preserved : goal.steps-preserved
 steps-preserved g c = record {
   owned = owned_now (g.O.Order.active c.steps.order) (g.O.Order.active c.step.new.order) (machine_stock c.steps.machine) (machine_stock c.step.new.self) c.steps.invariant.owned c.step.ensures.moved;
   reserved = omega (arith, c.steps.invariant.reserved, c.step.ensures.tracked);
+  enough = c.in-Ok.ensures.enough;
 }

@@ -28,6 +28,7 @@ use Rattle.vx_machine.proofs.running.run.Goals as goal
 pub steps-init : goal.steps-init
 steps-init g c = record {
   owned = c.requires.owned;
+  enough = c.requires.enough;
   moved = moved_none (g.O.Order.active c.args.order.now) (machine_stock c.args.machine) c.requires.owned;
   kind = refl;
   sources = λ e. subst (λ ts. Answered g.B.Fallible.faults g.B.Fallible.may_fail g.B.Fallible.must_fail c.args.source.now c.args.source.now (reads_in ts)) (sym e) (none_called g.B.Fallible.faults g.B.Fallible.may_fail g.B.Fallible.must_fail c.args.source.now);
@@ -63,6 +64,7 @@ steps-preserved g c =
     let v : Active = g.O.Order.active c.step_counted.new.order in
     record {
       owned = owned_now u v (machine_stock c.steps.machine) (machine_stock c.step_counted.new.self) c.steps.invariant.owned c.step_counted.ensures.moved;
+      enough = c.in-Ok-step_counted.ensures.enough;
       moved = moved_then (g.O.Order.active c.args.order.now) u v (machine_stock c.args.machine) (machine_stock c.steps.machine) (machine_stock c.step_counted.new.self) c.steps.invariant.moved c.step_counted.ensures.moved;
       kind = c.step_counted.ensures.kind ∙ c.steps.invariant.kind;
       sources = λ e.

@@ -2,7 +2,8 @@ use Rattle.std.proofs.Common.{◌≡◌, ◌+◌, vec_len, ◌-◌, ◌^◌, []}
 use Rattle.vx_machine_ids.specs.Balance.{Owned, Moved, Exact}
 use Rattle.vx_machine.specs.Calls.{reads_in, appends_in, calls_in}
 use Rattle.vx_machine.specs.Run.{at, Ran}
-use Rattle.vx_machine.specs.View.{machine_of}
+use Rattle.vx_machine.specs.Names.{HasNames}
+use Rattle.vx_machine.specs.View.{phase_of, machine_of}
 use Rattle.vx_sink.specs.ContextView.{counted}
 use Rattle.vx_machine_node.specs.Ledger.{told_by}
 use Rattle.vx_machine.specs.Whole.{machine_stock, machine_reserved}
@@ -12,6 +13,7 @@ use Rattle.vx_machine.proofs.running.run.Given as goal
 abbrev pub invariant-steps : goal.invariant-steps
 invariant-steps g l = record {
   owned : Owned (g.O.Order.active l.order) (machine_stock l.machine);
+  enough : HasNames (phase_of l.machine.phase) (g.B.BatchSource.left l.source);
   moved : Moved (g.O.Order.active l.initial.order) (g.O.Order.active l.order) (machine_stock l.initial.machine) (machine_stock l.machine);
   kind : g.B.BatchSource.kind l.source ≡ g.B.BatchSource.kind l.initial.source;
   sources : l.initial.trace.items ≡ [] → Answered g.B.Fallible.faults g.B.Fallible.may_fail g.B.Fallible.must_fail l.initial.source l.source (reads_in l.trace.items);

@@ -1,10 +1,16 @@
+use Rattle.std.proofs.Common.{sym, subst}
 use Rattle.vx_model.specs.TyView.{ty}
 use Rattle.vx_strategy.specs.StrategyView.{strategy_data}
 use Rattle.vx_machine.proofs.LedgerSteps.{told_listed, told_allowed, told_marked}
+use Rattle.vx_machine_view.specs.Machine.{Machine as Plain}
+use Rattle.vx_machine.specs.Names.{HasNames}
 use Rattle.vx_machine.specs.View.{machine_of}
 use Rattle.vx_machine.specs.Whole.{machine_stock}
 use Rattle.vx_write.proofs.RanSteps.{all_held, has_run}
 use Rattle.vx_write.proofs.tasks.write_in.Goals as goal
+
+pub run-requires-clause-enough : goal.run-requires-clause-enough
+run-requires-clause-enough g c = subst (λ (z : Plain). HasNames z.phase (g.B.BatchSource.left c.args.source.now)) (sym c.in_ok-machine.ensures.shows) tt
 
 pub returns-clause-ran : goal.returns-clause-ran
 returns-clause-ran g c is exact =

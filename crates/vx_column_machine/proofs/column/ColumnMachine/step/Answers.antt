@@ -17,7 +17,7 @@ use Rattle.vx_machine.specs.Whole.{machine_ready}
 use Rattle.vx_column_machine.specs.Course.{Course, StandsAt}
 use Rattle.vx_column_machine.specs.Underway.{IsFront}
 use Rattle.vx_column_machine.proofs.Telling.{fed_well, kept_well}
-use Rattle.vx_column_machine.proofs.Stepping.{some_ready, cause_of, led, stands_none, some_active, wrote_on}
+use Rattle.vx_column_machine.proofs.Stepping.{some_ready, enough, cause_of, led, stands_none, some_active, wrote_on}
 use Rattle.vx_column_machine.proofs.column.ColumnMachine.step.Goals as goal
 
 pub step-requires-clause-ready : goal.step-requires-clause-ready
@@ -27,6 +27,11 @@ step-requires-clause-ready g c =
 
 pub step-requires-clause-allowed : goal.step-requires-clause-allowed
 step-requires-clause-allowed g c = all_may _ (λ p b. tt) (task_pairs c.args.self.now.machine.root)
+
+pub step-requires-clause-enough : goal.step-requires-clause-enough
+step-requires-clause-enough g c =
+    enough c.requires.underway.0 (universe_of c.args.self.now.desk) c.args.self.now.machine c.requires.balance.exact (g.B.BatchSource.to_come c.args.self.now.source) (written_of c.args.self.now.desk)
+    c.args.self.now.paths.items c.requires.underway.2.stands c.courses.ensures.names (g.B.BatchSource.left c.args.self.now.source)
 
 pub returns-in_err-_step-clause-cause : goal.returns-in_err-_step-clause-cause
 returns-in_err-_step-clause-cause g c =

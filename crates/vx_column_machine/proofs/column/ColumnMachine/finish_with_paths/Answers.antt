@@ -2,7 +2,7 @@ use Rattle.vx_layout_tree.specs.LayoutView.{layout_data}
 use Rattle.vx_desk.specs.DeskView.{written_of}
 use Rattle.vx_machine.specs.View.{machine_of}
 use Rattle.vx_column_machine.proofs.Ending.{done_is}
-use Rattle.vx_column_machine.proofs.column.ColumnMachine.finish.Goals as goal
+use Rattle.vx_column_machine.proofs.column.ColumnMachine.finish_with_paths.Goals as goal
 
 pub returns-clause-done : goal.returns-clause-done
 returns-clause-done g c = λ x h.
