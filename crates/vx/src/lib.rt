@@ -54,6 +54,7 @@ pub mod layout {
         ListLayoutMetadata, MetadataError, ZonedMetadata, are_in_order,
     };
     pub use vx_read::read_rows;
+    pub use vx_read_chunk::{HeldPart, HeldRows, read_chunk};
     pub use vx_segment_map::{ReadError, SegmentMap};
     pub use vx_session::{
         AggregatesError, LayoutBuildContext, LayoutContext, LayoutEncoding, LayoutEncodingRef,

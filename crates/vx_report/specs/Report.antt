@@ -18,6 +18,11 @@ abbrev pub segment_lines : ℕ → List (List ℕ) → List ℕ
 segment_lines n [] = []
 segment_lines n (b ∷ bs) = segment_line n b ++ segment_lines (suc n) bs
 
+-- what stands before the steps: the layout's verbose tree, the segments, and the rows of the layout's zone tables
+abbrev pub report_front : ℕ → LayoutData ℕ → List (List ℕ) → List (List ValueData) → List ℕ
+report_front first l segments tables =
+    codes "layout\n" ++ (display_text true l ++ (codes "segments\n" ++ (segment_lines first segments ++ (codes "zones\n" ++ zone_lines 0 (zone_tables l) tables))))
+
 -- The report of a write: the layout's verbose tree, the segments from the first number on, the rows of the layout's zone tables, the steps,
 -- and the rows.
 abbrev pub report : ℕ → LayoutData ℕ → List (List ℕ) → List (List ValueData) → List Step → List ValueData → List ℕ

@@ -1,11 +1,13 @@
 //! The text that the program prints.
 
-ghost use Rattle.std.specs.Prelude.{◌≡◌, ◌++◌, ◌+◌, ◌<◌, ◌^◌, string_bytes, map, length, IfOk, OnOk};
+ghost use Rattle.std.specs.Prelude.{◌≡◌, ◌++◌, ◌+◌, ◌<◌, ◌^◌, List, string_bytes, map, length, IfOk, OnOk};
+ghost use Rattle.vx_model.specs.ValueData.{ValueData};
 ghost use Rattle.vx_model.specs.TreeView.{val};
 ghost use Rattle.vx_layout_tree.specs.LayoutView.{layout_data};
 ghost use Rattle.vx_report.specs.ZoneText.{zone_tables};
 ghost use Rattle.vx_report.specs.TableView.{AreTables, rows_of};
-ghost use Rattle.vx_report.specs.Report.{report, refused_report, columns_report, refused_columns, segment_line, segment_lines};
+ghost use Rattle.vx_report.specs.RowText.{row_lines};
+ghost use Rattle.vx_report.specs.Report.{report, report_front, refused_report, columns_report, refused_columns, segment_line, segment_lines};
 
 use crate::row_text::push_rows;
 use crate::trace_text::push_steps;
@@ -32,17 +34,29 @@ pub fn report(
     requires tables { AreTables tables.now (zone_tables (layout_data layout.now)) }
     ensures { IfOk result (λ text. string_bytes text ≡ report first (layout_data layout.now) segments.now (rows_of tables.now) steps.now (map val rows.now)) }
 {
-    let mut out = String::from_str(alloc, "layout\n")?;
-    let tree = layout.display_tree_verbose(alloc, true)?;
-    out.push_str(tree.as_str())?;
-    out.push_str("segments\n")?;
-    push_segments(alloc, &mut out, first, segments)?;
-    out.push_str("zones\n")?;
-    push_tables(alloc, &mut out, tables)?;
+    let mut out = report_head(alloc, first, layout, segments, tables, steps)?;
+    push_rows(alloc, &mut out, rows)?;
+    Ok(out)
+}
+
+/// The report of a write up to its rows, whose lines come behind it: `row_lines` gives them.
+#[tactic(auto, using(crate::proofs::Lines::text_rules))]
+pub fn report_head(
+    alloc: Global,
+    first: u64,
+    layout: &Layout,
+    segments: &[Blob],
+    tables: &[TableRows],
+    steps: &[Step],
+) -> Result<String, AllocError>
+    requires numbered { first + length segments.now < 2 ^ 64 }
+    requires tables { AreTables tables.now (zone_tables (layout_data layout.now)) }
+    ensures { IfOk result (λ text. (rows : List ValueData) → string_bytes text ++ row_lines rows ≡ report first (layout_data layout.now) segments.now (rows_of tables.now) steps.now rows) }
+{
+    let mut out = front(alloc, first, layout, segments, tables)?;
     out.push_str("trace\n")?;
     push_steps(&mut out, steps)?;
     out.push_str("rows\n")?;
-    push_rows(alloc, &mut out, rows)?;
     Ok(out)
 }
 
@@ -60,6 +74,42 @@ pub fn columns_report(
     requires tables { AreTables tables.now (zone_tables (layout_data layout.now)) }
     ensures { IfOk result (λ text. string_bytes text ≡ columns_report first (layout_data layout.now) segments.now (rows_of tables.now) (map val rows.now)) }
 {
+    let mut out = columns_head(alloc, first, layout, segments, tables)?;
+    push_rows(alloc, &mut out, rows)?;
+    Ok(out)
+}
+
+/// The report of a write by columns up to its rows.
+#[tactic(auto, using(crate::proofs::Lines::text_rules))]
+pub fn columns_head(
+    alloc: Global,
+    first: u64,
+    layout: &Layout,
+    segments: &[Blob],
+    tables: &[TableRows],
+) -> Result<String, AllocError>
+    requires numbered { first + length segments.now < 2 ^ 64 }
+    requires tables { AreTables tables.now (zone_tables (layout_data layout.now)) }
+    ensures { IfOk result (λ text. (rows : List ValueData) → string_bytes text ++ row_lines rows ≡ columns_report first (layout_data layout.now) segments.now (rows_of tables.now) rows) }
+{
+    let mut out = front(alloc, first, layout, segments, tables)?;
+    out.push_str("rows\n")?;
+    Ok(out)
+}
+
+/// What stands in both reports before the steps: the tree, the segments and the zone tables.
+#[tactic(auto, using(crate::proofs::Lines::text_rules))]
+fn front(
+    alloc: Global,
+    first: u64,
+    layout: &Layout,
+    segments: &[Blob],
+    tables: &[TableRows],
+) -> Result<String, AllocError>
+    requires numbered { first + length segments.now < 2 ^ 64 }
+    requires tables { AreTables tables.now (zone_tables (layout_data layout.now)) }
+    ensures { IfOk result (λ text. string_bytes text ≡ report_front first (layout_data layout.now) segments.now (rows_of tables.now)) }
+{
     let mut out = String::from_str(alloc, "layout\n")?;
     let tree = layout.display_tree_verbose(alloc, true)?;
     out.push_str(tree.as_str())?;
@@ -67,8 +117,6 @@ pub fn columns_report(
     push_segments(alloc, &mut out, first, segments)?;
     out.push_str("zones\n")?;
     push_tables(alloc, &mut out, tables)?;
-    out.push_str("rows\n")?;
-    push_rows(alloc, &mut out, rows)?;
     Ok(out)
 }
 

@@ -1,16 +1,31 @@
 //! Rows as lines of JSON.
 
-ghost use Rattle.std.specs.Prelude.{◌≡◌, ◌∷◌, ◌++◌, string_bytes, map, OnOk, false};
+ghost use Rattle.std.specs.Prelude.{◌≡◌, ◌≤◌, ◌∷◌, ◌++◌, string_bytes, length, map, IfOk, OnOk, false};
 ghost use Rattle.std.specs.Fmt.{signed_decimal};
 ghost use Rattle.serde_json.specs.Data.{string};
 ghost use Rattle.serde_json.specs.Written.{compact_text, items_text, comma_if};
 ghost use Rattle.vx_model.specs.ValueData.{vals_of};
 ghost use Rattle.vx_model.specs.TreeView.{val};
+ghost use Rattle.vx_chunk_cells.specs.Window.{window};
+ghost use Rattle.vx_read_chunk.specs.Held.{part_rows};
 ghost use Rattle.vx_report.specs.RowText.{row_text, row_lines, items_json};
 
 use serde_json::Value as Json;
 use std::alloc::{AllocError, Global};
 use vx_model::Value;
+use vx_read_chunk::HeldPart;
+
+/// A line a row, of rows `from` to `to`, the last not included.
+pub fn row_lines(alloc: Global, part: &HeldPart, from: u64, to: u64) -> Result<String, AllocError>
+    requires order { from ≤ to }
+    requires within { to ≤ length (part_rows part.now) }
+    ensures { IfOk result (λ text. string_bytes text ≡ row_lines (window from to (part_rows part.now))) }
+{
+    let rows = part.rows_between(alloc, from, to)?;
+    let mut out = String::new(alloc);
+    push_rows(alloc, &mut out, &rows)?;
+    Ok(out)
+}
 
 /// A line a row.
 #[tactic(auto, using(crate::proofs::RowSteps::row_rules))]

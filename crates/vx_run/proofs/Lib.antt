@@ -9,3 +9,4 @@ pub mod JobSteps
 mod BackSteps
 mod TreeSteps
 mod WordSteps
+pub mod RowSteps

@@ -150,6 +150,20 @@ not_usage InputFault is = refl
 not_usage OutputFault is = refl
 not_usage OutOfMemory is = refl
 
+not_failed : (status : Status) → is_answered status ≡ true → is_output_fault status ≡ false
+unfolding is_answered
+not_failed Usage is = absurd (cc is)
+not_failed Done is = refl
+not_failed BadJob is = refl
+not_failed Refused is = refl
+not_failed InputFault is = absurd (cc is)
+not_failed OutputFault is = absurd (cc is)
+not_failed OutOfMemory is = absurd (cc is)
+
+-- an answer is no fault of the output
+pub answers_fit : (c : Command) (bytes : List ℕ) (status : Status) (text : List ℕ) → Answers c bytes status text → is_output_fault status ≡ false
+answers_fit c bytes status text answers = not_failed status (answered c bytes status text answers)
+
 pub known_by : (status : Status) (text : List ℕ) (before now : Option (List ℕ)) (result : Status) → is_answered status ≡ true → Finishes status text before now result → is_usage result ≡ false
 known_by status text before now result is (inl all) = ap is_usage all.0 ∙ not_usage status is
 known_by status text before now result is (inr (inl failed, front)) = ap is_usage failed

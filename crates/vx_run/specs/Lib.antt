@@ -7,3 +7,4 @@ pub mod TreeAnswers
 pub mod Commands
 pub mod Running
 pub mod Runs
+pub mod Told

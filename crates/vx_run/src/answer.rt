@@ -13,6 +13,8 @@ ghost use Rattle.vx_sink.specs.ContextView.{listed, allowed_in, is_marked, count
 ghost use Rattle.vx_report.specs.Report.{report, refused_report};
 ghost use Rattle.vx_report.specs.ZoneText.{zone_tables};
 ghost use Rattle.vx_run.specs.declared.status.Status.TheVariants as statuses;
+ghost use Rattle.vx_read_chunk.specs.Held.{held_rows};
+ghost use Rattle.vx_run.specs.Told.{told_text};
 ghost use Rattle.vx_run.specs.RefusalNames.{refusal_name, is_memory};
 ghost use Rattle.vx_run.specs.Tables.{TablesThere, table_rows};
 ghost use Rattle.vx_run.specs.Answers.{IsText, IsAnswer, JobAnswer, IsWritten, Halts, bad_job};
@@ -26,7 +28,8 @@ use vx_layout_tree::Layout;
 use vx_model::{ArrayContext, Blob, Text, Value};
 use vx_progress::{CountedSink, Progress, ToldSource};
 use vx_read::{ReadError, SegmentMap, read_rows};
-use vx_report::{refused_report, report};
+use vx_read_chunk::{HeldRows, read_chunk};
+use vx_report::{refused_report, report_head};
 use vx_sink::{LayoutWriterContext, ListSource, MemorySink};
 use vx_table_compressor::TableCompressor;
 use vx_write::{Step, WriteError, write_stream};
@@ -38,17 +41,37 @@ pub struct Answer {
     pub text: String,
 }
 
+/// An answer, and the rows whose lines are printed behind its text.
+#[derive(Drop)]
+pub struct RowsAnswer {
+    pub answer: Answer,
+    pub rows: HeldRows,
+}
+
+/// An answer without rows.
+#[tactic(auto, using(crate::proofs::RowSteps::bare_rules))]
+pub fn without_rows(alloc: Global, answer: Answer) -> RowsAnswer
+    ensures status { result.answer.status ≡ answer.status }
+    ensures text { told_text result ≡ string_bytes answer.text }
+{
+    let parts = Vec::new(alloc);
+    RowsAnswer {
+        answer,
+        rows: HeldRows { parts },
+    }
+}
+
 /// The answer to the bytes of an input.
 pub(crate) fn answer_to<P: Progress + Drop>(
     alloc: Global,
     bytes: &[u8],
     progress: P,
-) -> Result<Answer, AllocError>
-    ensures { IfOk result (λ a. IsAnswer (job bytes.now) a.status (string_bytes a.text)) }
+) -> Result<RowsAnswer, AllocError>
+    ensures { IfOk result (λ a. IsAnswer (job bytes.now) a.answer.status (told_text a)) }
 {
     match read_job(alloc, bytes) {
         Ok(job) => write_job(alloc, job, progress),
-        Err(JobError::Wrong(key)) => bad_job(alloc, key),
+        Err(JobError::Wrong(key)) => wrong_job(alloc, key),
         Err(JobError::OutOfMemory) => Err(AllocError),
     }
 }
@@ -67,9 +90,21 @@ pub fn bad_job(alloc: Global, key: Key) -> Result<Answer, AllocError>
     })
 }
 
+/// The same answer, without rows.
+pub fn wrong_job(alloc: Global, key: Key) -> Result<RowsAnswer, AllocError>
+    ensures { IfOk result (λ a. IsText statuses.BadJob (bad_job key) a.answer.status (told_text a)) }
+{
+    let answer = bad_job(alloc, key)?;
+    Ok(without_rows(alloc, answer))
+}
+
 /// Writes the job's batches, reads their rows from the segments, and reports.
-fn write_job<P: Progress + Drop>(alloc: Global, job: Job, progress: P) -> Result<Answer, AllocError>
-    ensures { IfOk result (λ a. JobAnswer (job_view job) a.status (string_bytes a.text)) }
+fn write_job<P: Progress + Drop>(
+    alloc: Global,
+    job: Job,
+    progress: P,
+) -> Result<RowsAnswer, AllocError>
+    ensures { IfOk result (λ a. JobAnswer (job_view job) a.answer.status (told_text a)) }
 {
     let first = job.next;
     let appended = Cell::new(0);
@@ -158,20 +193,18 @@ fn refusal(
     error: &WriteError,
     segments: &Vec<Blob>,
     steps: &[Step],
-) -> Result<Answer, AllocError>
+) -> Result<RowsAnswer, AllocError>
     requires { first + length segments.now.items ≤ max first (2 ^ 32) }
     ensures { IfOk result (λ a. (is_memory error.now ≡ false)
-        × IsText statuses.Refused (refused_report (refusal_name error.now) first segments.now.items steps.now) a.status (string_bytes a.text)) }
+        × IsText statuses.Refused (refused_report (refusal_name error.now) first segments.now.items steps.now) a.answer.status (told_text a)) }
 {
     let name = refusal_name(error);
     if let WriteError::OutOfMemory = error {
         return Err(AllocError);
     }
     let text = refused_report(alloc, name, first, segments, steps)?;
-    Ok(Answer {
-        status: Status::Refused,
-        text,
-    })
+    let status = Status::Refused;
+    Ok(without_rows(alloc, Answer { status, text }))
 }
 
 /// The name of the error's variant.
@@ -204,21 +237,22 @@ fn written(
     layout: &Layout,
     list: Vec<Blob>,
     steps: &[Step],
-) -> Result<Answer, AllocError>
+) -> Result<RowsAnswer, AllocError>
     requires readable { IsSome (rows segment_codec (segment_at first list.items) (layout_data layout.now)) }
     requires numbered { first + length list.items ≤ max first (2 ^ 32) }
     requires tables { TablesThere (segment_at first list.items) (layout_data layout.now) }
-    ensures { IfOk result (λ a. (a.status ≡ statuses.Done) × (Some (Some (string_bytes a.text))
+    ensures { IfOk result (λ a. (a.answer.status ≡ statuses.Done) × (Some (Some (told_text a))
         ≡ option_map (λ tables. option_map (report first (layout_data layout.now) list.items tables steps.now) (rows segment_codec (segment_at first list.items) (layout_data layout.now)))
         (all_there (table_rows (segment_at first list.items) (zone_tables (layout_data layout.now)))))) }
 {
     let segments = numbered(first, list);
     let tables = read_tables(alloc, layout, &segments)?;
-    let rows = read_back(alloc, layout, &segments)?;
-    let text = report(alloc, first, layout, &segments.list, &tables, steps, &rows)?;
-    Ok(Answer {
-        status: Status::Done,
-        text,
+    let rows = held_back(alloc, layout, &segments)?;
+    let text = report_head(alloc, first, layout, &segments.list, &tables, steps)?;
+    let status = Status::Done;
+    Ok(RowsAnswer {
+        answer: Answer { status, text },
+        rows,
     })
 }
 
@@ -244,6 +278,24 @@ pub fn read_back(
     ensures { IfOk result (λ v. rows segment_codec (segment_in segments.now) (layout_data layout.now) ≡ Some (map val v.items)) }
 {
     match read_rows(alloc, layout, segments) {
+        Ok(rows) => Ok(rows),
+        Err(ReadError::OutOfMemory) => Err(AllocError),
+        Err(ReadError::NoSegment(_) | ReadError::BadSegment(_)) => unreachable!(),
+        Err(ReadError::Rows { .. } | ReadError::Foreign(_) | ReadError::Layout(_)) =>
+            unreachable!(),
+    }
+}
+
+/// The rows that a layout gives from the segments, as they are held.
+pub fn held_back(
+    alloc: Global,
+    layout: &Layout,
+    segments: &SegmentMap,
+) -> Result<HeldRows, AllocError>
+    requires { IsSome (rows segment_codec (segment_in segments.now) (layout_data layout.now)) }
+    ensures { IfOk result (λ h. rows segment_codec (segment_in segments.now) (layout_data layout.now) ≡ Some (held_rows h)) }
+{
+    match read_chunk(alloc, layout, segments) {
         Ok(rows) => Ok(rows),
         Err(ReadError::OutOfMemory) => Err(AllocError),
         Err(ReadError::NoSegment(_) | ReadError::BadSegment(_)) => unreachable!(),

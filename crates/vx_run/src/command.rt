@@ -2,8 +2,11 @@
 
 ghost use Rattle.std.specs.Prelude.{◌≡◌, ◌↔◌, ◌∷◌, [], map, string_bytes, decimal, IsTrue, IfOk};
 ghost use Rattle.vx_run.specs.Commands.{command_of, command_named, IsNumber, TellsRows, Answers};
+ghost use Rattle.vx_job.specs.TreeText.{tree_job};
+ghost use Rattle.vx_run.specs.TreeAnswers.{IsTreeAnswer};
+ghost use Rattle.vx_run.specs.Told.{told_text};
 
-use crate::answer::{Answer, answer_to};
+use crate::answer::{RowsAnswer, answer_to, without_rows};
 use crate::summary::MOST_ROWS;
 use crate::tree::tree_answer;
 use std::alloc::{AllocError, Global};
@@ -45,13 +48,21 @@ pub(crate) fn answer_by<P: Progress + Drop>(
     command: Command,
     bytes: &[u8],
     progress: P,
-) -> Result<Answer, AllocError>
-    ensures { IfOk result (λ a. Answers command bytes.now a.status (string_bytes a.text)) }
+) -> Result<RowsAnswer, AllocError>
+    ensures { IfOk result (λ a. Answers command bytes.now a.answer.status (told_text a)) }
 {
     match command {
         Command::Write => answer_to(alloc, bytes, progress),
-        Command::Tree => tree_answer(alloc, bytes),
+        Command::Tree => tree_alone(alloc, bytes),
     }
+}
+
+/// The answer of `tree`, which has no rows.
+fn tree_alone(alloc: Global, bytes: &[u8]) -> Result<RowsAnswer, AllocError>
+    ensures { IfOk result (λ a. IsTreeAnswer (tree_job bytes.now) a.answer.status (told_text a)) }
+{
+    let answer = tree_answer(alloc, bytes)?;
+    Ok(without_rows(alloc, answer))
 }
 
 /// The rows of the table that the words ask for: `gen` and a number from 1 to 1,000,000, in decimal.

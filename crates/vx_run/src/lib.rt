@@ -7,6 +7,7 @@ mod input;
 mod memory;
 mod output;
 mod real;
+mod row_printing;
 mod running;
 mod status;
 mod summary;
@@ -15,12 +16,16 @@ mod totals;
 mod tree;
 mod writing;
 
-pub use answer::{Answer, bad_job, context, numbered, read_back, refusal_name};
+pub use answer::{
+    Answer, RowsAnswer, bad_job, context, held_back, numbered, read_back, refusal_name,
+    without_rows, wrong_job,
+};
 pub use command::Command;
 pub use input::{Input, InputFailure};
 pub use memory::{ByteInput, ByteOutput};
 pub use output::{Output, OutputFailure};
 pub use real::{RealInput, RealOutput};
+pub use row_printing::finish_rows;
 pub use running::{finish, read_all, run, run_told};
 pub use status::Status;
 pub use tables::read_tables;

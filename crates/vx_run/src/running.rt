@@ -16,6 +16,7 @@ ghost use Rattle.vx_run.specs.Runs.{pipe_at, Runs};
 use crate::command::{Command, answer_by, command_of, rows_asked};
 use crate::input::{Input, InputFailure};
 use crate::output::{Output, OutputFailure};
+use crate::row_printing::finish_rows;
 use crate::status::Status;
 use crate::summary::table_summary;
 use std::alloc::Global;
@@ -130,7 +131,7 @@ fn run_command<I: Input, O: Output, P: Progress + Drop>(
 {
     match read_all(alloc, input) {
         Ok(bytes) => match answer_by(alloc, command, &bytes, progress) {
-            Ok(answer) => finish(output, answer.status, &answer.text),
+            Ok(answer) => finish_rows(alloc, output, &answer),
             Err(_) => Status::OutOfMemory,
         },
         Err(InputFailure::Failed) => Status::InputFault,
@@ -178,11 +179,12 @@ pub fn finish<O: Output>(output: &mut O, status: Status, text: &str) -> Status
 }
 
 #[tactic(auto, using(crate::proofs::RunSteps::write_rules))]
-fn write_all<O: Output>(output: &mut O, bytes: &[u8]) -> Result<(), OutputFailure>
+pub(crate) fn write_all<O: Output>(output: &mut O, bytes: &[u8]) -> Result<(), OutputFailure>
     ensures all { OnOk result (Appends (O.written output.old) (O.written output.new) bytes.now) }
     ensures front { OnErr result (AppendsFront (O.written output.old) (O.written output.new) bytes.now) }
     ensures count { Counts (O.faults output.old) (O.faults output.new) (output_failed result) }
     ensures may { output_failed result ≡ true → MayFail (O.may_fail output.old) }
+    ensures kept { OnOk result ((k : ℕ) → O.may_fail output.new k → MayFail (O.may_fail output.old)) }
 {
     let mut at = 0;
     'writes: while at < bytes.len() {

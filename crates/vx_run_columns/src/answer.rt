@@ -1,6 +1,6 @@
 //! What the command answers to a job.
 
-ghost use Rattle.std.specs.Prelude.{◌≡◌, ◌+◌, ◌^◌, ◌<◌, ◌≤◌, ℕ, max, false, string_bytes, length, vec_len, All, Some, IsSome, IfOk, IfErr, MatchResult, option_map};
+ghost use Rattle.std.specs.Prelude.{◌≡◌, ◌+◌, ◌^◌, ◌<◌, ◌≤◌, ℕ, max, false, length, vec_len, All, Some, IsSome, IfOk, IfErr, MatchResult, option_map};
 ghost use Rattle.vx_model.specs.TyView.{ty};
 ghost use Rattle.vx_layout_spec.specs.Rows.{rows, all_there};
 ghost use Rattle.vx_segment_reader.specs.Codec.{segment_codec};
@@ -14,6 +14,7 @@ ghost use Rattle.vx_report.specs.ZoneText.{zone_tables};
 ghost use Rattle.vx_write_columns.specs.ColumnCount.{column_count};
 ghost use Rattle.vx_run.specs.declared.status.Status.TheVariants as statuses;
 ghost use Rattle.vx_run.specs.Answers.{IsText};
+ghost use Rattle.vx_run.specs.Told.{told_text};
 ghost use Rattle.vx_run.specs.RefusalNames.{refusal_name, is_memory};
 ghost use Rattle.vx_run.specs.Tables.{TablesThere, table_rows};
 ghost use Rattle.vx_run_columns.specs.BesideAnswers.{IsAnswerBeside, JobAnswerBeside, IsWrittenBeside, HaltsBeside};
@@ -27,8 +28,11 @@ use vx_gate::Gate;
 use vx_job::{Job, JobError, Key, read_job};
 use vx_layout_tree::Layout;
 use vx_model::{Blob, DType};
-use vx_report::{columns_report, refused_columns};
-use vx_run::{Answer, Status, bad_job, context, numbered, read_back, read_tables, refusal_name};
+use vx_report::{columns_head, refused_columns};
+use vx_run::{
+    Answer, RowsAnswer, Status, context, held_back, numbered, read_tables, refusal_name,
+    without_rows, wrong_job,
+};
 use vx_sink::{ListSource, MemorySink};
 use vx_strategy::Strategy;
 use vx_table_compressor::TableCompressor;
@@ -41,12 +45,12 @@ pub(crate) fn columns_answer<G: Gate + Sync, R: Threads + Wait + Sync>(
     alloc: Global,
     bytes: &[u8],
     gate: &G,
-) -> Result<Answer, AllocError>
-    ensures { IfOk result (λ a. IsAnswerBeside (job bytes.now) a.status (string_bytes a.text)) }
+) -> Result<RowsAnswer, AllocError>
+    ensures { IfOk result (λ a. IsAnswerBeside (job bytes.now) a.answer.status (told_text a)) }
 {
     match read_job(alloc, bytes) {
         Ok(job) => write_job(rt, alloc, job, gate),
-        Err(JobError::Wrong(key)) => bad_job(alloc, key),
+        Err(JobError::Wrong(key)) => wrong_job(alloc, key),
         Err(JobError::OutOfMemory) => Err(AllocError),
     }
 }
@@ -57,12 +61,12 @@ fn write_job<G: Gate + Sync, R: Threads + Wait + Sync>(
     alloc: Global,
     job: Job,
     gate: &G,
-) -> Result<Answer, AllocError>
-    ensures { IfOk result (λ a. JobAnswerBeside (job_view job) a.status (string_bytes a.text)) }
+) -> Result<RowsAnswer, AllocError>
+    ensures { IfOk result (λ a. JobAnswerBeside (job_view job) a.answer.status (told_text a)) }
 {
     let count = columns_of(&job.strategy, &job.schema);
     if count == 0 {
-        return bad_job(alloc, Key::Strategy);
+        return wrong_job(alloc, Key::Strategy);
     }
     match compressors(alloc, count as usize, &job.faults.compress) {
         Ok(compressors) => write_by(rt, alloc, job, compressors, gate),
@@ -108,11 +112,11 @@ fn write_by<G: Gate + Sync, R: Threads + Wait + Sync>(
     job: Job,
     compressors: Vec<TableCompressor>,
     gate: &G,
-) -> Result<Answer, AllocError>
+) -> Result<RowsAnswer, AllocError>
     requires columns { column_count (strategy_data job.strategy) (ty job.schema) ≡ Some (vec_len compressors) }
     requires some { 0 < vec_len compressors }
     requires fail { All (λ c. FailsBy job.faults.compress.items (⟦<TableCompressor as Fallible>⟧.faults c) (⟦<TableCompressor as Fallible>⟧.may_fail c)) compressors.items }
-    ensures { IfOk result (λ a. JobAnswerBeside (job_view job) a.status (string_bytes a.text)) }
+    ensures { IfOk result (λ a. JobAnswerBeside (job_view job) a.answer.status (told_text a)) }
 {
     let first = job.next;
     match write_batches(rt, alloc, job, compressors, gate) {
@@ -170,21 +174,22 @@ fn written(
     first: u64,
     layout: &Layout,
     list: Vec<Blob>,
-) -> Result<Answer, AllocError>
+) -> Result<RowsAnswer, AllocError>
     requires readable { IsSome (rows segment_codec (segment_at first list.items) (layout_data layout.now)) }
     requires numbered { first + length list.items ≤ max first (2 ^ 32) }
     requires tables { TablesThere (segment_at first list.items) (layout_data layout.now) }
-    ensures { IfOk result (λ a. (a.status ≡ statuses.Done) × (Some (Some (string_bytes a.text))
+    ensures { IfOk result (λ a. (a.answer.status ≡ statuses.Done) × (Some (Some (told_text a))
         ≡ option_map (λ tables. option_map (columns_report first (layout_data layout.now) list.items tables) (rows segment_codec (segment_at first list.items) (layout_data layout.now)))
         (all_there (table_rows (segment_at first list.items) (zone_tables (layout_data layout.now)))))) }
 {
     let segments = numbered(first, list);
     let tables = read_tables(alloc, layout, &segments)?;
-    let rows = read_back(alloc, layout, &segments)?;
-    let text = columns_report(alloc, first, layout, &segments.list, &tables, &rows)?;
-    Ok(Answer {
-        status: Status::Done,
-        text,
+    let rows = held_back(alloc, layout, &segments)?;
+    let text = columns_head(alloc, first, layout, &segments.list, &tables)?;
+    let status = Status::Done;
+    Ok(RowsAnswer {
+        answer: Answer { status, text },
+        rows,
     })
 }
 
@@ -194,18 +199,16 @@ fn refusal(
     first: u64,
     error: &WriteError,
     segments: &Vec<Blob>,
-) -> Result<Answer, AllocError>
+) -> Result<RowsAnswer, AllocError>
     requires { first + length segments.now.items ≤ max first (2 ^ 32) }
     ensures { IfOk result (λ a. (is_memory error.now ≡ false)
-        × IsText statuses.Refused (refused_columns (refusal_name error.now) first segments.now.items) a.status (string_bytes a.text)) }
+        × IsText statuses.Refused (refused_columns (refusal_name error.now) first segments.now.items) a.answer.status (told_text a)) }
 {
     let name = refusal_name(error);
     if let WriteError::OutOfMemory = error {
         return Err(AllocError);
     }
     let text = refused_columns(alloc, name, first, segments)?;
-    Ok(Answer {
-        status: Status::Refused,
-        text,
-    })
+    let status = Status::Refused;
+    Ok(without_rows(alloc, Answer { status, text }))
 }

@@ -16,7 +16,9 @@ use std::alloc::Global;
 use std::sync::Wait;
 use std::thread::Threads;
 use vx_gate::Gate;
-use vx_run::{Input, InputFailure, Nobody, Output, Progress, Status, finish, read_all, run_told};
+use vx_run::{
+    Input, InputFailure, Nobody, Output, Progress, Status, finish_rows, read_all, run_told,
+};
 
 /// Reads a job to the end of the input, writes it column by column, each in a thread of its own and behind the gate, and prints
 /// its report without the steps. The job's schedule isn't used; each column's compressor fails at the job's list of calls.
@@ -58,7 +60,7 @@ fn print_answer<I: Input, O: Output, G: Gate + Sync, R: Threads + Wait + Sync>(
 {
     match read_all(alloc, input) {
         Ok(bytes) => match columns_answer(rt, alloc, &bytes, gate) {
-            Ok(answer) => finish(output, answer.status, &answer.text),
+            Ok(answer) => finish_rows(alloc, output, &answer),
             Err(_) => Status::OutOfMemory,
         },
         Err(InputFailure::Failed) => Status::InputFault,

@@ -1,7 +1,7 @@
-use Rattle.std.proofs.Common.{refl, map}
-use Rattle.vx_model.specs.TreeView.{val}
+use Rattle.std.proofs.Common.{refl}
 use Rattle.vx_layout_tree.specs.LayoutView.{layout_data}
 use Rattle.vx_plan.specs.Number.{segment_at}
+use Rattle.vx_read_chunk.specs.Held.{held_rows}
 use Rattle.vx_report.specs.Report.{columns_report}
 use Rattle.vx_run.proofs.TableSteps.{report_shown}
 use Rattle.vx_run_columns.proofs.answer.written.Goals as goal
@@ -9,13 +9,14 @@ use Rattle.vx_run_columns.proofs.answer.written.Goals as goal
 pub read_tables-requires : goal.read_tables-requires
 read_tables-requires c = rw c.numbered-segments.ensures.segments c.requires.tables
 
-pub read_back-requires : goal.read_back-requires
-read_back-requires c = rw c.numbered-segments.ensures.segments c.requires.readable
+pub held_back-requires : goal.held_back-requires
+held_back-requires c = rw c.numbered-segments.ensures.segments c.requires.readable
 
 pub returns : goal.returns
 returns c =
     let look = segment_at c.args.first c.args.list.items in
     let read = rw c.numbered-segments.ensures.segments at c.in_ok-tables.ensures in
     let back = rw c.numbered-segments.ensures.segments at c.in_ok-rows.ensures in
-    let shown = rw (c.deref.ensures.value, c.numbered-segments.ensures.list, c.deref-2.ensures.value, c.deref-3.ensures.value) at c.in_ok-text.ensures in
-    (refl, report_shown look (layout_data c.args.layout.now) c.in_ok-tables.tables.items (map val c.in_ok-rows.rows.items) _ (λ tables vs. columns_report c.args.first (layout_data c.args.layout.now) c.args.list.items tables vs) read back shown)
+    let rows = held_rows c.in_ok-rows.rows in
+    let shown = rw (c.deref.ensures.value, c.numbered-segments.ensures.list, c.deref-2.ensures.value) at c.in_ok-text.ensures rows in
+    (refl, report_shown look (layout_data c.args.layout.now) c.in_ok-tables.tables.items rows _ (λ tables vs. columns_report c.args.first (layout_data c.args.layout.now) c.args.list.items tables vs) read back shown)

@@ -1,0 +1,4 @@
+pub mod HeldSteps
+pub mod FlatSteps
+pub mod ColumnSteps
+pub mod HoldingSteps
