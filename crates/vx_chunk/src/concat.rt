@@ -43,7 +43,7 @@ fn flatten(alloc: Global, parts: Vec<Chunk>) -> Result<Vec<Chunk>, AllocError>
 fn push_flat(chunk: Chunk, out: &mut Vec<Chunk>) -> Result<(), AllocError>
     ensures { OnOk result (out.new.items ≡ out.old.items ++ parts_of chunk) }
 {
-    let Chunk { node } = chunk;
+    let node = chunk.into_node();
     match node {
         Node::Chunked { dtype, mut parts } => {
             drop(dtype);

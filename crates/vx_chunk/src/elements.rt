@@ -66,7 +66,7 @@ impl Chunk {
             drop(self);
             return Err(ChunkError::OutOfMemory);
         };
-        let Chunk { node } = self;
+        let node = self.into_node();
         match node {
             Node::List {
                 dtype,

@@ -40,7 +40,7 @@ impl Chunk {
         ensures fields { IfOk result (λ v. v.items ≡ field_pieces (struct_fields (piece_type self)) self) }
         ensures memory { IfErr result (λ e. e ≡ ChunkError.OutOfMemory) }
     {
-        let Chunk { node } = self;
+        let node = self.into_node();
         match node {
             Node::Struct { dtype, fields, .. } => {
                 drop(dtype);

@@ -1,5 +1,9 @@
 //! How a chunk's rows are held.
 
+ghost use Rattle.std.specs.Prelude.{◌≡◌, IsTrue};
+ghost use Rattle.vx_model.specs.ChunkData.{is_sound};
+ghost use Rattle.vx_chunk.specs.ChunkView.{node_piece};
+
 use std::marker::Model;
 use vx_column::Column;
 use vx_model::{Cell, DType};
@@ -51,7 +55,6 @@ pub enum Node {
 }
 
 /// Rows of one type.
-#[derive(Drop)]
 #[cycle(chunk)]
 pub struct Chunk {
     pub(crate) node: Node,
@@ -79,4 +82,36 @@ impl Model for Chunk {
     ghost use Rattle.vx_chunk.specs.NodeDepth.{depth_falls};
 
     ghost size_decreases = { λ c h. depth_falls c.node };
+}
+
+// Written out, so that whoever drops one makes a call, and no proof goes through its nodes again.
+impl Drop for Chunk {
+    #[cycle(chunk)]
+    fn drop(self) {
+        let Chunk { node } = self;
+        match node {
+            Node::Chunked {
+                dtype: _dtype,
+                parts,
+            } => drop(parts),
+            Node::Struct {
+                dtype: _dtype,
+                fields,
+                valid: _valid,
+                rows: _,
+            } => drop(fields),
+            other => drop(other),
+        }
+    }
+}
+
+impl Chunk {
+    /// How its rows were held.
+    pub(crate) fn into_node(self) -> Node
+        ensures piece { node_piece result ≡ self }
+        ensures sound { IsTrue (is_sound (node_piece result)) }
+    {
+        let Chunk { node } = self;
+        node
+    }
 }

@@ -46,7 +46,7 @@ impl Chunk {
 fn own_cells(chunk: Chunk, alloc: Global) -> Result<Vec<Cell>, AllocError>
     ensures { IfOk result (λ v. map tree v.items ≡ cells_in chunk) }
 {
-    let Chunk { node } = chunk;
+    let node = chunk.into_node();
     match node {
         Node::Plain { dtype, column } => {
             drop(dtype);
@@ -88,7 +88,7 @@ fn own_parts(parts: Vec<Chunk>, alloc: Global) -> Result<Vec<Cell>, AllocError>
 fn own_column(chunk: Chunk, alloc: Global) -> Result<Column, AllocError>
     ensures { IfOk result (λ c. column_cells c ≡ cells_in chunk) }
 {
-    let Chunk { node } = chunk;
+    let node = chunk.into_node();
     match node {
         Node::Plain { dtype, column } => {
             drop(dtype);

@@ -7,30 +7,6 @@ use crate::leaves::AnyLeaves;
 use std::alloc::{AllocError, Global};
 use vx_typed::Leaves;
 
-impl AnyLeaves {
-    /// These values, and the others behind them, in the same memory where nothing else shares it. Where the others are of
-    /// another type, the values as they are.
-    pub fn append(
-        self,
-        alloc: Global,
-        others: &AnyLeaves,
-    ) -> Result<Result<AnyLeaves, AnyLeaves>, AllocError>
-        ensures { IfOk result (λ r. MatchResult r (λ c. leaf_cells c ≡ leaf_cells self ++ leaf_cells others.now) (λ c. leaf_cells c ≡ leaf_cells self)) }
-    {
-        match self {
-            AnyLeaves::Bool(leaves) => append_bool(leaves, alloc, others),
-            AnyLeaves::U8(leaves) => append_u8(leaves, alloc, others),
-            AnyLeaves::U16(leaves) => append_u16(leaves, alloc, others),
-            AnyLeaves::U32(leaves) => append_u32(leaves, alloc, others),
-            AnyLeaves::U64(leaves) => append_u64(leaves, alloc, others),
-            AnyLeaves::I8(leaves) => append_i8(leaves, alloc, others),
-            AnyLeaves::I16(leaves) => append_i16(leaves, alloc, others),
-            AnyLeaves::I32(leaves) => append_i32(leaves, alloc, others),
-            AnyLeaves::I64(leaves) => append_i64(leaves, alloc, others),
-        }
-    }
-}
-
 /// The leaves, and the others behind them where they are of the same form; else the leaves as they are.
 macro_rules! append_as {
     ($form:path, $leaves:expr, $alloc:expr, $others:expr) => {
@@ -41,7 +17,7 @@ macro_rules! append_as {
     };
 }
 
-fn append_bool(
+pub(crate) fn append_bool(
     leaves: Leaves<bool>,
     alloc: Global,
     others: &AnyLeaves,
@@ -51,7 +27,7 @@ fn append_bool(
     append_as!(AnyLeaves::Bool, leaves, alloc, others)
 }
 
-fn append_u8(
+pub(crate) fn append_u8(
     leaves: Leaves<u8>,
     alloc: Global,
     others: &AnyLeaves,
@@ -61,7 +37,7 @@ fn append_u8(
     append_as!(AnyLeaves::U8, leaves, alloc, others)
 }
 
-fn append_u16(
+pub(crate) fn append_u16(
     leaves: Leaves<u16>,
     alloc: Global,
     others: &AnyLeaves,
@@ -71,7 +47,7 @@ fn append_u16(
     append_as!(AnyLeaves::U16, leaves, alloc, others)
 }
 
-fn append_u32(
+pub(crate) fn append_u32(
     leaves: Leaves<u32>,
     alloc: Global,
     others: &AnyLeaves,
@@ -81,7 +57,7 @@ fn append_u32(
     append_as!(AnyLeaves::U32, leaves, alloc, others)
 }
 
-fn append_u64(
+pub(crate) fn append_u64(
     leaves: Leaves<u64>,
     alloc: Global,
     others: &AnyLeaves,
@@ -91,7 +67,7 @@ fn append_u64(
     append_as!(AnyLeaves::U64, leaves, alloc, others)
 }
 
-fn append_i8(
+pub(crate) fn append_i8(
     leaves: Leaves<i8>,
     alloc: Global,
     others: &AnyLeaves,
@@ -101,7 +77,7 @@ fn append_i8(
     append_as!(AnyLeaves::I8, leaves, alloc, others)
 }
 
-fn append_i16(
+pub(crate) fn append_i16(
     leaves: Leaves<i16>,
     alloc: Global,
     others: &AnyLeaves,
@@ -111,7 +87,7 @@ fn append_i16(
     append_as!(AnyLeaves::I16, leaves, alloc, others)
 }
 
-fn append_i32(
+pub(crate) fn append_i32(
     leaves: Leaves<i32>,
     alloc: Global,
     others: &AnyLeaves,
@@ -121,7 +97,7 @@ fn append_i32(
     append_as!(AnyLeaves::I32, leaves, alloc, others)
 }
 
-fn append_i64(
+pub(crate) fn append_i64(
     leaves: Leaves<i64>,
     alloc: Global,
     others: &AnyLeaves,

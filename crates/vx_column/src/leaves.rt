@@ -1,6 +1,6 @@
 //! Numbers of any machine type, or Bools.
 
-ghost use Rattle.std.specs.Prelude.{◌≡◌, ◌≤◌, ◌<◌, ◌++◌, length, map, slice_index_or, IsTrue, IfOk, OnOk};
+ghost use Rattle.std.specs.Prelude.{◌≡◌, ◌≤◌, ◌<◌, ◌++◌, length, map, slice_index_or, IsTrue, IfOk, OnOk, MatchResult};
 ghost use Rattle.vx_model.specs.Words.{all_by, joined_by};
 ghost use Rattle.vx_model.specs.CellData.{null_cell, spelling};
 ghost use Rattle.vx_model.specs.TreeView.{tree};
@@ -9,12 +9,15 @@ ghost use Rattle.vx_typed.specs.Typed.{is_leaf};
 ghost use Rattle.vx_typed.specs.Lent.{lent_cell};
 ghost use Rattle.vx_column.specs.ColumnView.{leaf_cells, leaf_ptype, leaf_type, leaf_width};
 
-use std::alloc::AllocError;
+use crate::leaf_joins::{
+    append_bool, append_i8, append_i16, append_i32, append_i64, append_u8, append_u16, append_u32,
+    append_u64,
+};
+use std::alloc::{AllocError, Global};
 use vx_model::{Cell, PType};
 use vx_typed::{Leaves, Lent};
 
 /// Numbers of one of the integer types, or Bools.
-#[derive(Drop)]
 pub enum AnyLeaves {
     Bool(Leaves<bool>),
     U8(Leaves<u8>),
@@ -119,6 +122,28 @@ impl AnyLeaves {
         as_each!(self, leaves => leaves.slice(from, to)?)
     }
 
+    /// These values, and the others behind them, in the same memory where nothing else shares it. Where the others are of
+    /// another type, the values as they are.
+    pub fn append(
+        self,
+        alloc: Global,
+        others: &AnyLeaves,
+    ) -> Result<Result<AnyLeaves, AnyLeaves>, AllocError>
+        ensures { IfOk result (λ r. MatchResult r (λ c. leaf_cells c ≡ leaf_cells self ++ leaf_cells others.now) (λ c. leaf_cells c ≡ leaf_cells self)) }
+    {
+        match self {
+            AnyLeaves::Bool(leaves) => append_bool(leaves, alloc, others),
+            AnyLeaves::U8(leaves) => append_u8(leaves, alloc, others),
+            AnyLeaves::U16(leaves) => append_u16(leaves, alloc, others),
+            AnyLeaves::U32(leaves) => append_u32(leaves, alloc, others),
+            AnyLeaves::U64(leaves) => append_u64(leaves, alloc, others),
+            AnyLeaves::I8(leaves) => append_i8(leaves, alloc, others),
+            AnyLeaves::I16(leaves) => append_i16(leaves, alloc, others),
+            AnyLeaves::I32(leaves) => append_i32(leaves, alloc, others),
+            AnyLeaves::I64(leaves) => append_i64(leaves, alloc, others),
+        }
+    }
+
     /// Appends the cells.
     pub fn push_cells(&self, out: &mut Vec<Cell>) -> Result<(), AllocError>
         ensures { OnOk result (map tree out.new.items ≡ map tree out.old.items ++ leaf_cells self.now) }
@@ -143,6 +168,13 @@ impl AnyLeaves {
         let each = self.width() as usize + usize::from(nullable);
         out.reserve(self.len().saturating_mul(each))?;
         of_each!(self, leaves => leaves.push_bytes(nullable, out))
+    }
+}
+
+// Written out, so that whoever drops some makes a call, and no proof goes through their types again.
+impl Drop for AnyLeaves {
+    fn drop(self) {
+        of_each!(self, leaves => drop(leaves))
     }
 }
 

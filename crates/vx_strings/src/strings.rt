@@ -20,7 +20,6 @@ use vx_model::Cell;
 use vx_typed::{Flags, Lent, Shared, needed};
 
 /// Texts or bytes, one behind the other in memory, where each begins and the last ends, and which of them are valid.
-#[derive(Drop)]
 pub struct Strings {
     kind: StringKind,
     bytes: Shared<u8>,
@@ -209,6 +208,18 @@ impl Strings {
             self.valid.as_slice(),
             out,
         )
+    }
+}
+
+// Written out, so that whoever drops one makes a call, and no proof goes through its fields again.
+impl Drop for Strings {
+    fn drop(self) {
+        let Strings {
+            kind: _,
+            bytes: _,
+            offsets: _,
+            valid: _,
+        } = self;
     }
 }
 

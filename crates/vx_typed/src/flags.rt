@@ -9,7 +9,6 @@ use std::alloc::{AllocError, Global};
 use std::marker::Model;
 
 /// A flag a row, or none where all rows are valid. Columns that are cut from one share its flags.
-#[derive(Drop)]
 pub struct Flags {
     kept: Option<Shared<bool>>,
 }
@@ -126,6 +125,13 @@ fn are_set(flags: &[bool]) -> bool
         }
     }
     true
+}
+
+// As of `Shared`.
+impl Drop for Flags {
+    fn drop(self) {
+        let Flags { kept: _ } = self;
+    }
 }
 
 impl Clone for Flags {

@@ -18,7 +18,6 @@ use std::marker::Model;
 use vx_model::Cell;
 
 /// Values of one machine type, and which of them are valid.
-#[derive(Drop)]
 pub struct Leaves<T: Leaf> {
     items: Shared<T>,
     valid: Flags,
@@ -153,6 +152,13 @@ impl<T: Leaf> Leaves<T> {
             return push_valid(nullable, items, out);
         }
         push_masked(nullable, items, valid, out)
+    }
+}
+
+// As of `Shared`.
+impl<T: Leaf> Drop for Leaves<T> {
+    fn drop(self) {
+        let Leaves { items: _, valid: _ } = self;
     }
 }
 

@@ -6,12 +6,12 @@ use Rattle.vx_chunk.proofs.node.Chunk.into_list_parts.Goals as goal
 
 pub returns : goal.returns
 returns c =
-    let keeps : keeps_elements (node_piece c.self.inside.node) ≡ true = rw c.self.view_is (search rules) in
-    let kept = kept_elements c.self.inside.node c.in-List.dtype c.in-List.elements c.in-List.offsets c.in-List.valid c.in-List.is c.self.invariant keeps in
+    let keeps : keeps_elements (node_piece c.into_node-node.result) ≡ true = rw c.into_node-node.ensures.piece (search rules) in
+    let kept = kept_elements c.into_node-node.result c.in-List.dtype c.in-List.elements c.in-List.offsets c.in-List.valid c.in-List.is c.into_node-node.ensures.sound keeps in
     record {
-      elements = c.into_inner.ensures ∙ (rw c.self.view_is at kept.elements);
-      offsets = rw c.self.view_is at kept.offsets;
+      elements = c.into_inner.ensures ∙ (rw c.into_node-node.ensures.piece at kept.elements);
+      offsets = rw c.into_node-node.ensures.piece at kept.offsets;
       valid = search rules;
-      fits = rw c.self.view_is at kept.short;
+      fits = rw c.into_node-node.ensures.piece at kept.short;
       refused = tt;
     }
