@@ -7,11 +7,12 @@ use std::thread::Threads;
 use std::time::Instant;
 use vx_gate::NoGate;
 use vx_job::{Job, read_job};
+use vx_layout_tree::Layout;
 use vx_model::Blob;
-use vx_sink::{LayoutWriterContext, ListSource, MemorySink};
+use vx_sink::{BatchSource, LayoutWriterContext, ListSource, MemorySink};
 use vx_strategy::Strategy;
 use vx_table_compressor::TableCompressor;
-use vx_write::{column_count, write_stream};
+use vx_write::{WriteError, column_count, write_stream};
 use vx_write_columns::write_columns;
 
 const COLUMNS: u64 = 8;
@@ -29,6 +30,12 @@ struct Written {
     segments: Vec<Blob>,
     nanos: u128,
 }
+
+/// What a write by columns comes to.
+type Divided = Result<
+    (Layout, MemorySink, Vec<TableCompressor>),
+    (WriteError, MemorySink, Vec<TableCompressor>),
+>;
 
 /// A column's rows in a batch, each one of 251 numbers.
 fn push_column(alloc: Global, text: &mut String, column: u64, from: u64, rows: u64) -> Result<()> {
@@ -130,33 +137,60 @@ fn by_columns<R: Threads + Wait + Sync>(
     alloc: Global,
     job: Job,
 ) -> Result<Written> {
-    let compressors = compressors(alloc)?;
-    let Some(columns) = column_count(&job.strategy, &job.schema) else {
-        bail!("no columns");
-    };
-    ensure!(columns > 0, "no column");
-    ensure!(columns == compressors.len() as u64, "other columns");
     let faults = job.faults;
     let mut ctx = LayoutWriterContext::new(job.encodings);
     let mut source = ListSource::new(job.schema, job.batches, faults.source);
     let sink = MemorySink::new(job.next, faults.sink);
-    let start = Instant::now(rt)?;
-    let written = write_columns(
+    divide(
         threads,
+        rt,
         alloc,
         &job.strategy,
         &mut ctx,
         &mut source,
         sink,
+    )
+}
+
+/// Writes column by column, and tells how many nanoseconds that took.
+fn divide<R: Threads + Wait + Sync>(
+    threads: &R,
+    rt: &HostRuntime,
+    alloc: Global,
+    strategy: &Strategy,
+    ctx: &mut LayoutWriterContext,
+    source: &mut ListSource,
+    sink: MemorySink,
+) -> Result<Written> {
+    let compressors = compressors(alloc)?;
+    let Some(columns) = column_count(strategy, source.dtype()) else {
+        bail!("no columns");
+    };
+    ensure!(columns > 0, "no column");
+    ensure!(columns == compressors.len() as u64, "other columns");
+    let start = Instant::now(rt)?;
+    let written = write_columns(
+        threads,
+        alloc,
+        strategy,
+        ctx,
+        source,
+        sink,
         compressors,
         &NoGate,
     );
-    let nanos = start.elapsed(rt)?.as_nanos();
+    let elapsed = start.elapsed(rt);
+    let sink = sink_of(written)?;
+    Ok(Written {
+        segments: sink.into_segments(),
+        nanos: elapsed?.as_nanos(),
+    })
+}
+
+/// The sink of a write that came to its end.
+fn sink_of(written: Divided) -> Result<MemorySink> {
     match written {
-        Ok((_layout, sink, _compressors)) => Ok(Written {
-            segments: sink.into_segments(),
-            nanos,
-        }),
+        Ok((_layout, sink, _compressors)) => Ok(sink),
         Err((error, _sink, _compressors)) => Err(error.into()),
     }
 }

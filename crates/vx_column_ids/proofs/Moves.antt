@@ -1,9 +1,8 @@
 -- What calls move, of what is held in lists.
 use Rattle.std.proofs.Common.{◌≡◌, ℕ, ◌-◌, ◌<◌, List, [], ◌∷◌, ◌++◌, length, get_or, set, refl, sym, ap, subst, ◌∙◌, arith}
-use Rattle.std.specs.FinMap as map
 use Rattle.vx_path.specs.Path.{Eof}
 use Rattle.vx_sequence.specs.Universe.{Active, root, only}
-use Rattle.vx_machine_ids.specs.Stock.{Stock, one, none, both, all_stock, id_stock, end_stock, ids_stock}
+use Rattle.vx_machine_ids.specs.Stock.{Stock, none, both, all_stock, id_stock, end_stock, ids_stock}
 use Rattle.vx_machine_ids.specs.Balance.{Owned, Moved}
 use Rattle.vx_machine_ids.proofs.Stocks.{stock_is, both_none, both_assoc, both_swap, all_push}
 use Rattle.vx_machine_ids.proofs.MoveLaws.{moved_as, moved_none, moved_then, moved_beside, moved_behind, moved_drop, moved_drop_first, owned_as, owned_left, owned_right, owned_now}
@@ -143,32 +142,3 @@ module _ (u v : Active) (s s' t : Stock) (o : Owned u s) (m : Moved u v s (both 
 
 pub root_owned : (u : Active) (e : Eof) → u ≡ only root → e ≡ root → Owned u (end_stock e)
 root_owned u e a b = subst (λ v. Owned v (end_stock e)) (sym a) (subst (λ f. Owned (only root) (end_stock f)) (sym b) (only_owned root))
-
--- ---- a pointer on its way
-
-pub stayed : (u v : Active) (s s' : Stock) → Moved u v s (both s' none) → Moved u v s s'
-stayed u v s s' m = moved_as u v s s (both s' none) s' refl (both_none s') m
-
-pub id_held : (u v : Active) (s s' i : Stock) → Owned u s → Moved u v s (both s' i) → Owned v i
-id_held u v s s' i o m = owned_right v s' i (owned_now u v s (both s' i) o m)
-
-pub skipped : (u v w : Active) (s s' i : Stock) → Owned u s → Moved u v s (both s' i) → Moved v w i none → Moved u w s s'
-skipped u v w s s' i o m n = moved_then u v w s (both s' i) s' m (moved_drop v w s' i (owned_now u v s (both s' i) o m) n)
-
--- a pointer b beside the one that goes on: another is made of that, or none is
-module _ (u v w : Active) (s s' b : Stock) (o : Owned u s) (m : Moved u v s (both s' b)) where
-  both_owned : Owned v (both s' b)
-  both_owned = owned_now u v s (both s' b) o m
-
-  pub went_below : (e : Stock) → Moved v w s' e → Moved u w s (both b e)
-  went_below e n = moved_as u w s s (both e b) (both b e) refl (both_swap e b) (moved_then u v w s (both s' b) (both e b) m (moved_beside v w s' e b both_owned n))
-
-  pub left_below : Moved v w s' none → Owned w b
-  left_below n = owned_now u w s b o (moved_then u v w s (both s' b) b m (moved_drop_first v w s' b both_owned n))
-
-  pub none_below : (x : Active) → Moved v w s' none → Moved w x b none → Moved u x s none
-  none_below x n k = moved_then u w x s b none (moved_then u v w s (both s' b) b m (moved_drop_first v w s' b both_owned n)) k
-
--- nothing was made of it, and it is given up
-pub root_gone : (u v : Active) (s s' : Stock) → Owned u s → Moved u v s (both s' none) → (w : Active) → Moved v w s' none → Moved u w s none
-root_gone u v s s' o m w n = moved_then u v w s s' none (stayed u v s s' m) n

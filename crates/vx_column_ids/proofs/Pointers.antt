@@ -1,6 +1,6 @@
 -- The pointers of batches, and the ids that they give column by column.
 use Rattle.std.proofs.Common.{◌≡◌, ℕ, zero, suc, ◌+◌, ◌<◌, ◌≤◌, ◌^◌, List, [], ◌∷◌, ◌++◌, map, length, take, drop, get_or, set, refl, sym, ap, ◌∙◌, arith}
-use Rattle.std.proofs.lemmas.List.{take_all, drop_all, append-nil}
+use Rattle.std.proofs.lemmas.List.{take_all, drop_all, append-nil, length_push, length-map}
 use Rattle.vx_path.specs.Path.{Eof, eof_path, next, inside}
 use Rattle.vx_sequence.specs.declared.errors.SequenceError.{SequenceError}
 use Rattle.vx_sequence.specs.declared.errors.SequenceError.TheVariants.{IndexFull, OutOfMemory}
@@ -113,6 +113,14 @@ outset_is p c n es e a s l i b =
     let o : outset_of p ≡ column_outset c n = λ j. record { names = handed (ids j); eof = eof j } in
     let z : suc c ≡ c + 1 = omega arith in
     ap (λ x. column_outsets c n ++ (x ∷ [])) o ∙ ap (λ x. column_outsets x n) z
+
+-- as many parts as columns
+outsets_long : (c n : ℕ) → length (column_outsets c n) ≡ c
+outsets_long zero n = refl
+outsets_long (suc c) n = length_push (column_outsets c n) (column_outset c n) ∙ (let z : length (column_outsets c n) + 1 ≡ suc c = omega (arith, outsets_long c n) in z)
+
+pub parts_counted : (ps : List ColumnPart) (len c n : ℕ) → len ≡ length ps → map outset_of ps ≡ column_outsets c n → len ≡ c
+parts_counted ps len c n l e = l ∙ sym (length-map ps outset_of) ∙ ap length e ∙ outsets_long c n
 
 -- ---- refusals
 

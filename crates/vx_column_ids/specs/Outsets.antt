@@ -14,12 +14,6 @@ column_outsets (suc c) n = column_outsets c n ++ (column_outset c n ∷ [])
 abbrev pub outset_of : ColumnPart → Outset
 outset_of p = record { names = handed p.ids.items; eof = p.eof }
 
--- ---- a column's own machine
-
--- so many places on
-abbrev pub further : Eof → ℕ → Eof
-further e n = record { stem = e.stem; last = e.last + n }
-
 -- ---- on the way
 
 -- the pointers of so many batches from the i-th on, each before its id of this column

@@ -2,11 +2,9 @@
 #![tactic(auto)]
 
 mod ids;
-mod outset;
 mod part;
 mod parts;
 
-pub use outset::column_pointers;
 pub use part::ColumnPart;
-pub use parts::column_parts;
+pub use parts::{column_parts, give_up_parts};
 pub use vx_sequence::SequenceError;

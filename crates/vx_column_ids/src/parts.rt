@@ -15,7 +15,8 @@ use crate::part::ColumnPart;
 use std::alloc::Global;
 use vx_sequence::{SequenceError, SequenceId, SequencePointer, Universe};
 
-fn give_up_parts(mut parts: Vec<ColumnPart>) {
+/// Gives up all that is active in these parts.
+pub fn give_up_parts(mut parts: Vec<ColumnPart>) {
     while let Some(part) = parts.pop() {
         part.give_up();
     }
@@ -31,6 +32,7 @@ pub fn column_parts(
 ) -> Result<Vec<ColumnPart>, SequenceError>
     requires { count + 1 < 2 ^ 64 }
     ensures outsets { IfOk result (λ v. map outset_of v.items ≡ column_outsets count batches) }
+    ensures count { IfOk result (λ v. vec_len v ≡ count) }
     ensures memory { IfErr result (λ e. e ≡ SequenceError.OutOfMemory) }
 {
     let mut parts = Vec::with_capacity(alloc, count)?;

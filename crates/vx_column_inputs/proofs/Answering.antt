@@ -1,5 +1,5 @@
 -- Batches are read one after the other.
-use Rattle.std.proofs.Common.{◌≡◌, ℕ, ◌+◌, Bool, true, false, List, [], ◌∷◌, ◌++◌, length, Option, Some, None, append_assoc, refl, sym, ap, subst, ◌∙◌, arith}
+use Rattle.std.proofs.Common.{◌≡◌, ℕ, ◌+◌, true, false, List, [], ◌∷◌, ◌++◌, length, Option, Some, None, append_assoc, refl, sym, ap, subst, ◌∙◌, arith}
 use Rattle.std.specs.Prelude.{Ok, Err}
 use Rattle.std.proofs.lemmas.Bool.{true≢false}
 use Rattle.std.proofs.lemmas.List.{length_push}
@@ -14,7 +14,7 @@ use Rattle.vx_plan.specs.Valid.{OfSchema, AllOf}
 use Rattle.vx_sink.specs.Source.{source_failed, GivesNext}
 use Rattle.vx_sink.specs.declared.source.SourceError.{SourceError}
 use Rattle.vx_sink.specs.declared.source.SourceError.TheVariants as source
-use Rattle.vx_write_answer.specs.Causes.{of_source, is_source_fault}
+use Rattle.vx_write_answer.specs.Causes.{of_source}
 use Rattle.vx_write_answer.specs.declared.error.WriteError.{WriteError}
 use Rattle.vx_write_answer.specs.declared.error.WriteError.TheVariants.{SourceFault, SinkFault, CompressFault, BatchType, NotStruct, DuplicateField, ManyChunks, EmptyList, ZoneCut, ForbiddenAggregate, ForbiddenEncoding, TooLarge, OutOfMemory, Stopped}
 use Rattle.vx_column_inputs.specs.Prepared.{NamesStop, SplitStops}

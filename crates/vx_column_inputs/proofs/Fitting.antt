@@ -1,15 +1,14 @@
 -- The chunks of each column are of its type.
-use Rattle.std.proofs.Common.{◌≡◌, ℕ, zero, suc, ◌+◌, ◌||◌, ◌&&◌, ◌==◌, Bool, true, false, List, [], ◌∷◌, map, length, Option, Some, None, refl, sym, ap, subst, ◌∙◌, arith}
-use Rattle.std.specs.Prelude.{if◌then◌else◌, All}
+use Rattle.std.proofs.Common.{◌≡◌, ℕ, ◌||◌, ◌&&◌, ◌==◌, Bool, true, false, List, [], ◌∷◌, map, length, Some, refl, sym, ap, subst, ◌∙◌}
+use Rattle.std.specs.Prelude.{All}
 use Rattle.std.proofs.lemmas.Bool.{true≢false, and_parts}
 use Rattle.std.proofs.lemmas.List.Elements.{All-nil, All-cons}
 use Rattle.vx_model.specs.Words.{tail}
-use Rattle.vx_model.specs.Ty.{Ty, Tys, boolean, primitive, utf8, binary, list, struct, extension, no_fields, field, fields_in, nullable, ty_eq}
+use Rattle.vx_model.specs.Ty.{Ty, Tys, boolean, primitive, utf8, binary, list, struct, extension, no_fields, field, fields_in, ty_eq}
 use Rattle.vx_model.specs.TyLaws.{ty_eq_decides}
 use Rattle.vx_model.specs.CellData.{CellData}
 use Rattle.vx_model.specs.ChunkData.{ChunkData, plain_piece, constant_piece, dict_piece, chunked_piece, list_piece, struct_piece, extension_piece, piece_type, pieces_in, cells, match_fields, has_fields, is_sound, are_sound}
-use Rattle.vx_layout_spec.specs.Real.{Of}
-use Rattle.vx_layout_spec.specs.Parts.{others_of, plain_fields, field_pieces, validity_piece}
+use Rattle.vx_layout_spec.specs.Parts.{others_of, plain_fields, field_pieces}
 use Rattle.vx_rules.specs.Columns.{struct_columns, head_piece}
 use Rattle.vx_strategy_spec.specs.StrategyData.{StrategyData, StrategyList, structured}
 use Rattle.vx_plan.specs.Valid.{OfSchema, AllOf}

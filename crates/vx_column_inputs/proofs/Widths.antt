@@ -1,9 +1,9 @@
 -- A struct type has as many columns as its strategy writes.
-use Rattle.std.proofs.Common.{◌≡◌, ℕ, suc, ◌+◌, ◌||◌, Bool, true, false, List, [], ◌∷◌, length, Option, Some, None, refl, sym, ap, ◌∙◌, arith}
+use Rattle.std.proofs.Common.{◌≡◌, ℕ, suc, ◌+◌, ◌||◌, Bool, true, false, length, Some, None, refl, sym, ap, ◌∙◌, arith}
 use Rattle.std.specs.Prelude.{if◌then◌else◌, unwrap_or}
 use Rattle.vx_model.specs.Ty.{Ty, Tys, boolean, primitive, utf8, binary, list, struct, extension, no_fields, field, fields_in, is_struct}
 use Rattle.vx_strategy_spec.specs.StrategyData.{StrategyData, StrategyList, structured}
-use Rattle.vx_column_plan.specs.Columns.{Column, field_columns, columns_by}
+use Rattle.vx_column_plan.specs.Columns.{field_columns, columns_by}
 use Rattle.vx_column_ways.specs.Ways.{columns_in}
 use Rattle.vx_column_batches.specs.Beside.{width_of}
 use Rattle.vx_column_ways.specs.ColumnCount.{columns_of}

@@ -10,7 +10,7 @@ use Rattle.vx_fault.specs.Told.{before_told, NoneTold, answers_in, TookLast}
 use Rattle.vx_plan.specs.PlanData.{row_totals}
 use Rattle.vx_plan.specs.SourcePlan.{batch_items}
 use Rattle.vx_write_answer.specs.declared.error.WriteError.{WriteError}
-use Rattle.vx_write_answer.specs.declared.error.WriteError.TheVariants.{SourceFault, BatchType, TooLarge, OutOfMemory}
+use Rattle.vx_write_answer.specs.declared.error.WriteError.TheVariants.{SourceFault, BatchType, OutOfMemory}
 use Rattle.vx_write_answer.specs.Causes.{is_source_fault}
 
 -- the source's answers: so many batches, and its end where it was heard

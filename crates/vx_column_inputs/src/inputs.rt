@@ -9,7 +9,6 @@ ghost use Rattle.vx_chunk_cells.specs.Parts.{struct_fields};
 ghost use Rattle.vx_strategy.specs.NodeViews.{struct_way};
 ghost use Rattle.vx_plan.specs.Valid.{OfSchema, AllOf};
 ghost use Rattle.vx_sink.specs.ContextView.{is_marked, allowed_in, listed, counted};
-ghost use Rattle.vx_moved_plans.specs.Moved.{at_column};
 ghost use Rattle.vx_column_ways.specs.Ways.{column_of, columns_in};
 ghost use Rattle.vx_column_ways.specs.ColumnCount.{columns_of};
 ghost use Rattle.vx_column_inputs.specs.Reading.{SourceTold};
@@ -40,6 +39,7 @@ pub struct Input {
 pub struct Columns {
     pub dtype: DType,
     pub rows: u64,
+    pub batches: usize,
     pub fronts: Vec<Path>,
     pub inputs: Vec<Input>,
 }
@@ -57,7 +57,7 @@ pub fn prepared<B: BatchSource>(
     ensures kind { B.kind source.new ≡ B.kind source.old }
     ensures read { IfOk result (λ c. (taken : List ChunkData)
         × SourceTold (B.faults source.old) (B.faults source.new) (B.may_fail source.old) (B.must_fail source.old) (B.to_come source.old) (B.to_come source.new) taken true false
-        × ArePrepared (listed ctx.now) (allowed_in ctx.now) ⟦<ListSource as BatchSource>⟧.kind ⟦<ListSource as Fallible>⟧.may_fail ⟦<ListSource as BatchSource>⟧.to_come
+        × ArePrepared (listed ctx.now) (allowed_in ctx.now) ⟦<ListSource as BatchSource>⟧.kind ⟦<ListSource as Fallible>⟧.may_fail ⟦<ListSource as BatchSource>⟧.to_come ⟦<ListSource as BatchSource>⟧.left
         (B.kind source.old) taken (columns_in (struct_way fields.now) (B.kind source.old) (is_marked ctx.now)) count c) }
     ensures refused { IfErr result (PrepareStops (B.kind source.old) (B.faults source.old) (B.faults source.new) (B.may_fail source.old) (B.must_fail source.old)
         (B.to_come source.old) (B.to_come source.new)) }
@@ -80,11 +80,12 @@ fn split_up(
     requires count { columns_of (ty dtype) ≡ Some count }
     requires typed { OfSchema (ty dtype) batches.items }
     requires whole { AllOf (ty dtype) batches.items }
-    ensures split { IfOk result (ArePrepared (listed ctx.now) (allowed_in ctx.now) ⟦<ListSource as BatchSource>⟧.kind ⟦<ListSource as Fallible>⟧.may_fail ⟦<ListSource as BatchSource>⟧.to_come
+    ensures split { IfOk result (ArePrepared (listed ctx.now) (allowed_in ctx.now) ⟦<ListSource as BatchSource>⟧.kind ⟦<ListSource as Fallible>⟧.may_fail ⟦<ListSource as BatchSource>⟧.to_come ⟦<ListSource as BatchSource>⟧.left
         (ty dtype) batches.items (columns_in (struct_way fields.now) (ty dtype) (is_marked ctx.now)) count) }
     ensures refused { IfErr result (SplitStops (ty dtype) batches.items) }
 {
     let rows = row_total(batches.as_slice());
+    let taken = batches.len();
     let inputs = all_inputs(alloc, fields, ctx, &dtype, batches, count)?;
     let rows = match rows {
         Ok(rows) => rows,
@@ -94,6 +95,7 @@ fn split_up(
     Ok(Columns {
         dtype,
         rows,
+        batches: taken,
         fronts,
         inputs,
     })
@@ -110,7 +112,7 @@ fn all_inputs(
 ) -> Result<Vec<Input>, WriteError>
     requires count { columns_of (ty dtype.now) ≡ Some count }
     requires whole { AllOf (ty dtype.now) batches.items }
-    ensures made { IfOk result (λ v. AreInputs (listed ctx.now) (allowed_in ctx.now) ⟦<ListSource as BatchSource>⟧.kind ⟦<ListSource as Fallible>⟧.may_fail ⟦<ListSource as BatchSource>⟧.to_come
+    ensures made { IfOk result (λ v. AreInputs (listed ctx.now) (allowed_in ctx.now) ⟦<ListSource as BatchSource>⟧.kind ⟦<ListSource as Fallible>⟧.may_fail ⟦<ListSource as BatchSource>⟧.to_come ⟦<ListSource as BatchSource>⟧.left
         (ty dtype.now) batches.items 0 (columns_in (struct_way fields.now) (ty dtype.now) (is_marked ctx.now)) v.items) }
     ensures count { IfOk result (λ v. vec_len v ≡ count) }
     ensures distinct { OnOk result (duplicate (struct_fields (ty dtype.now)) ≡ None) }
@@ -124,7 +126,7 @@ fn all_inputs(
 
 /// The paths of the columns' first batches: before its first step a column has no path below that.
 fn fronts(alloc: Global, count: usize) -> Result<Vec<Path>, AllocError>
-    ensures { IfOk result (λ v. v.items ≡ map (λ k. at_column k (0 ∷ 0 ∷ [])) (range_with_len 0 count)) }
+    ensures { IfOk result (λ v. v.items ≡ map (λ k. 0 ∷ 0 ∷ k ∷ []) (range_with_len 0 count)) }
 {
     let mut fronts = Vec::with_capacity(alloc, count)?;
     for k in 0..count {
@@ -141,7 +143,7 @@ fn inputs(
     split: Vec<Vec<Chunk>>,
 ) -> Result<Vec<Input>, AllocError>
     requires { FitColumns (is_marked ctx.now) (map column_of ways.items) (map (λ c. c.items) split.items) }
-    ensures { IfOk result (λ v. AreOwnInputs (listed ctx.now) (allowed_in ctx.now) ⟦<ListSource as BatchSource>⟧.kind ⟦<ListSource as Fallible>⟧.may_fail ⟦<ListSource as BatchSource>⟧.to_come
+    ensures { IfOk result (λ v. AreOwnInputs (listed ctx.now) (allowed_in ctx.now) ⟦<ListSource as BatchSource>⟧.kind ⟦<ListSource as Fallible>⟧.may_fail ⟦<ListSource as BatchSource>⟧.to_come ⟦<ListSource as BatchSource>⟧.left
         (map column_of ways.items) (map (λ c. c.items) split.items) v.items) }
 {
     let mut inputs = Vec::with_capacity(alloc, ways.len())?;
@@ -166,7 +168,7 @@ fn own_input(
     requires typed { OfSchema (ty way.dtype) chunks.items }
     requires marked { is_marked ctx.now ≡ true → way.marked ≡ true }
     ensures { IfOk result (λ i. IsInput (listed ctx.now) (allowed_in ctx.now) (column_of way) chunks.items i
-        (⟦<ListSource as BatchSource>⟧.kind i.source) (⟦<ListSource as Fallible>⟧.may_fail i.source) (⟦<ListSource as BatchSource>⟧.to_come i.source)) }
+        (⟦<ListSource as BatchSource>⟧.kind i.source) (⟦<ListSource as Fallible>⟧.may_fail i.source) (⟦<ListSource as BatchSource>⟧.to_come i.source) (⟦<ListSource as BatchSource>⟧.left i.source)) }
 {
     let ctx = own_context(ctx, way.marked)?;
     let source = ListSource::new(way.dtype.clone()?, chunks, Vec::new(alloc));

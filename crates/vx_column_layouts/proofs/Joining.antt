@@ -14,7 +14,6 @@ use Rattle.vx_layout_tree.specs.Made.{Made, make_struct}
 use Rattle.vx_layout_tree.specs.declared.layout.Layout.{Layout}
 use Rattle.vx_plan.specs.PlanData.{Plan}
 use Rattle.vx_order_answer.specs.declared.receipt.Receipt.{Receipt}
-use Rattle.vx_moved_plans.specs.Moved.{at_column}
 use Rattle.vx_column_plan.specs.Shared.{number_by}
 use Rattle.vx_column_machine.specs.Causes.{IsDone}
 use Rattle.vx_column_ways.specs.ColumnCount.{columns_of}
@@ -24,7 +23,7 @@ use Rattle.vx_column_layouts.specs.Numbers.{ColumnOutcome, AllDone, StandsIn, Al
 
 -- ---- refusals
 
-own_is : (e : WriteError) → is_stop e ≡ false → IsOwn e
+pub own_is : (e : WriteError) → is_stop e ≡ false → IsOwn e
 own_is (Stopped by name) h = true≢false h
 own_is SourceFault h = tt
 own_is SinkFault h = tt
@@ -40,7 +39,7 @@ own_is (ForbiddenEncoding id) h = tt
 own_is (TooLarge n) h = tt
 own_is OutOfMemory h = tt
 
-own_alone : (e : WriteError) → IsOwn e → is_stop e ≡ false
+pub own_alone : (e : WriteError) → IsOwn e → is_stop e ≡ false
 own_alone (Stopped by name) h = absurd h
 own_alone SourceFault h = refl
 own_alone SinkFault h = refl
@@ -118,48 +117,44 @@ all_ok os h o = ⊎_elim (λ a. a) (λ b. absurd (none_own os b.0 b.1 h b.2 b.3)
 
 -- ---- layouts
 
--- Of all outcomes these are left; the others' layouts, those of columns below k, are numbered.
+-- Of all outcomes these are left; the others' layouts are numbered.
 record Numbered (number : List ℕ → ℕ) (rs : List Receipt) (ps : List Plan) (layouts : List (LayoutData ℕ)) (rest : List ColumnOutcome) : Type 0 where
-  pub k : ℕ
   pub plans : List Plan
-  pub done : AllDone k plans rest
-  pub stand : AllStandIn rs k plans
-  pub laid : layouts ++ layouts_by number k plans ≡ layouts_by number 0 ps
+  pub done : AllDone plans rest
+  pub stand : AllStandIn rs plans
+  pub laid : layouts ++ layouts_by number plans ≡ layouts_by number ps
 
-none_numbered : (number : List ℕ → ℕ) (rs : List Receipt) (ps : List Plan) (os : List ColumnOutcome) → AllDone 0 ps os → AllStandIn rs 0 ps → Numbered number rs ps [] os
-none_numbered number rs ps os d s = record { k = 0; plans = ps; done = d; stand = s; laid = refl }
+none_numbered : (number : List ℕ → ℕ) (rs : List Receipt) (ps : List Plan) (os : List ColumnOutcome) → AllDone ps os → AllStandIn rs ps → Numbered number rs ps [] os
+none_numbered number rs ps os d s = record { plans = ps; done = d; stand = s; laid = refl }
 
 -- the next column's layout is numbered
 one_numbered : (number : List ℕ → ℕ) (rs : List Receipt) (ps : List Plan) (layouts : List (LayoutData ℕ)) (r : Layout × Vec Path) (rest : List ColumnOutcome) (l : LayoutData ℕ)
-    → ((k : ℕ) (p : Plan) → IsDone p k (layout_data r.0) r.1.items → StandsIn rs k p → l ≡ renamed (λ path. number (at_column k path)) p.layout)
-    → Numbered number rs ps layouts (Ok r ∷ rest) → Numbered number rs ps (layouts ++ (l ∷ [])) rest
-one_numbered number rs ps layouts r rest l is h = by h.k h.plans h.done h.stand h.laid
+    → ((p : Plan) → IsDone p (layout_data r.0) r.1.items → StandsIn rs p → l ≡ renamed number p.layout) → Numbered number rs ps layouts (Ok r ∷ rest) → Numbered number rs ps (layouts ++ (l ∷ [])) rest
+one_numbered number rs ps layouts r rest l is h = by h.plans h.done h.stand h.laid
   where
-    by : (k : ℕ) (plans : List Plan) → AllDone k plans (Ok r ∷ rest) → AllStandIn rs k plans → layouts ++ layouts_by number k plans ≡ layouts_by number 0 ps
-        → Numbered number rs ps (layouts ++ (l ∷ [])) rest
-    by k [] d s e = absurd d
-    by k (q ∷ plans) d s e = record {
-      k = suc k;
+    by : (plans : List Plan) → AllDone plans (Ok r ∷ rest) → AllStandIn rs plans → layouts ++ layouts_by number plans ≡ layouts_by number ps → Numbered number rs ps (layouts ++ (l ∷ [])) rest
+    by [] d s e = absurd d
+    by (q ∷ plans) d s e = record {
       plans = plans;
       done = d.1;
       stand = s.1;
-      laid = append_assoc layouts (l ∷ []) (layouts_by number (suc k) plans) ∙ ap (λ z. layouts ++ (z ∷ layouts_by number (suc k) plans)) (is k q d.0 s.0) ∙ e;
+      laid = append_assoc layouts (l ∷ []) (layouts_by number plans) ∙ ap (λ z. layouts ++ (z ∷ layouts_by number plans)) (is q d.0 s.0) ∙ e;
     }
 
 -- a column that was stopped has none
 none_done : (number : List ℕ → ℕ) (rs : List Receipt) (ps : List Plan) (layouts : List (LayoutData ℕ)) (e : WriteError) (rest : List ColumnOutcome) → Numbered number rs ps layouts (Err e ∷ rest) → ⊥
-none_done number rs ps layouts e rest h = by h.k h.plans h.done
+none_done number rs ps layouts e rest h = by h.plans h.done
   where
-    by : (k : ℕ) (plans : List Plan) → AllDone k plans (Err e ∷ rest) → ⊥
-    by k [] d = d
-    by k (q ∷ plans) d = d
+    by : (plans : List Plan) → AllDone plans (Err e ∷ rest) → ⊥
+    by [] d = d
+    by (q ∷ plans) d = d
 
-all_numbered : (number : List ℕ → ℕ) (rs : List Receipt) (ps : List Plan) (layouts : List (LayoutData ℕ)) → Numbered number rs ps layouts [] → layouts ≡ layouts_by number 0 ps
-all_numbered number rs ps layouts h = by h.k h.plans h.done h.laid
+all_numbered : (number : List ℕ → ℕ) (rs : List Receipt) (ps : List Plan) (layouts : List (LayoutData ℕ)) → Numbered number rs ps layouts [] → layouts ≡ layouts_by number ps
+all_numbered number rs ps layouts h = by h.plans h.done h.laid
   where
-    by : (k : ℕ) (plans : List Plan) → AllDone k plans [] → layouts ++ layouts_by number k plans ≡ layouts_by number 0 ps → layouts ≡ layouts_by number 0 ps
-    by k [] d e = sym (append-nil layouts) ∙ e
-    by k (q ∷ plans) d e = absurd d
+    by : (plans : List Plan) → AllDone plans [] → layouts ++ layouts_by number plans ≡ layouts_by number ps → layouts ≡ layouts_by number ps
+    by [] d e = sym (append-nil layouts) ∙ e
+    by (q ∷ plans) d e = absurd d
 
 -- ---- outcomes, one after the other
 
@@ -168,7 +163,7 @@ pub record SoFar (rs : List Receipt) (all rest : List ColumnOutcome) (layouts : 
   own : first_own all ≡ first_own rest
   ok : AllOk all → AllOk rest
   count : AllOk all → length layouts + length rest ≡ length all
-  laid : (first : ℕ) (ps : List Plan) → AllDone 0 ps all → AllStandIn rs 0 ps → Numbered (number_by first rs) rs ps layouts rest
+  laid : (first : ℕ) (ps : List Plan) → AllDone ps all → AllStandIn rs ps → Numbered (number_by first rs) rs ps layouts rest
 
 pub so_far_none : (rs : List Receipt) (all : List ColumnOutcome) → SoFar rs all all []
 so_far_none rs all = record { own = refl; ok = λ a. a; count = λ a. omega arith; laid = λ first ps d s. none_numbered (number_by first rs) rs ps all d s }
@@ -220,7 +215,7 @@ module _ (rs : List Receipt) (all rest : List ColumnOutcome) (layouts : List (La
   pub ended_count : length layouts ≡ length all
   ended_count = let n : length layouts + 0 ≡ length all = ended.count ended_ok in omega (arith, n)
 
-  pub ended_laid : (first : ℕ) (ps : List Plan) → AllDone 0 ps all → AllStandIn rs 0 ps → layouts ≡ layouts_by (number_by first rs) 0 ps
+  pub ended_laid : (first : ℕ) (ps : List Plan) → AllDone ps all → AllStandIn rs ps → layouts ≡ layouts_by (number_by first rs) ps
   ended_laid first ps d s = all_numbered (number_by first rs) rs ps layouts (ended.laid first ps d s)
 
 -- ---- the struct's layout

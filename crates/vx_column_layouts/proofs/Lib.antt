@@ -1,4 +1,4 @@
-mod Joining
+pub mod Joining
 pub mod Named
 mod Numbered
 mod Places

@@ -1,4 +1,4 @@
--- A column's layout under the numbers of its paths in the struct.
+-- A column's layout under the numbers of its paths.
 use Rattle.std.proofs.Common.{◌≡◌, ◌⊎◌, ℕ, zero, suc, ◌+◌, Bool, true, false, bytes_eq, List, [], ◌∷◌, length, get_or, slice_index_or, map, inl, inr, ⊎_elim, refl, sym, ap, ap₂, subst, ◌∙◌, arith}
 use Rattle.std.specs.Prelude.{if◌then◌else◌}
 use Rattle.std.specs.Cmp.Lexicographic.{bytes_decides}
@@ -17,10 +17,8 @@ use Rattle.vx_plan.specs.PlanData.{Pair, Plan, paths}
 use Rattle.vx_plan.specs.Number.{path_of, sorted}
 use Rattle.vx_order_answer.specs.declared.receipt.Receipt.{Receipt}
 use Rattle.vx_seats.specs.History.{paths as written_paths}
-use Rattle.vx_moved_plans.specs.Moved.{Moving, moved_pairs, at_column}
 use Rattle.vx_column_machine.specs.Progress.{numbers_from}
 use Rattle.vx_column_plan.specs.Shared.{number_by}
-use Rattle.vx_column_machine.specs.Course.{paths_at}
 use Rattle.vx_column_machine.specs.Causes.{IsDone}
 use Rattle.vx_renumber.specs.Numbers.{number_at}
 use Rattle.vx_column_layouts.specs.Numbers.{AllIn, StandsIn}
@@ -32,18 +30,22 @@ abbrev Differ : List (List ℕ) → Type 0
 Differ [] = Unit {0}
 Differ (p ∷ ps) = (In p ps → ⊥) × Differ ps
 
-in_moved : (f : Moving) (x : Pair) (ps : List Pair) → In x ps → In (f x.0) (paths (moved_pairs f ps))
-in_moved f x [] i = absurd i
-in_moved f x (y ∷ ps) i = ⊎_elim (λ e. inl (ap (λ (z : Pair). f z.0) e)) (λ j. inr (in_moved f x ps j)) i
+in_paths : (x : Pair) (ps : List Pair) → In x ps → In x.0 (paths ps)
+in_paths x [] i = absurd i
+in_paths x (y ∷ ps) i = ⊎_elim (λ e. inl (ap (λ (z : Pair). z.0) e)) (λ j. inr (in_paths x ps j)) i
 
-differ_pairs : (f : Moving) (ps : List Pair) → vx_paths.Scattered (paths (moved_pairs f ps)) → Differ (map path_of ps)
-differ_pairs f [] s = tt
-differ_pairs f (x ∷ ps) s = (off, differ_pairs f ps s.1)
+paths_are : (ps : List Pair) → paths ps ≡ map path_of ps
+paths_are [] = refl
+paths_are (x ∷ ps) = ap (λ z. x.0 ∷ z) (paths_are ps)
+
+differ_pairs : (ps : List Pair) → vx_paths.Scattered (paths ps) → Differ (map path_of ps)
+differ_pairs [] s = tt
+differ_pairs (x ∷ ps) s = (off, differ_pairs ps s.1)
   where
     off : In x.0 (map path_of ps) → ⊥
     off i =
         let r : (y : Pair) × In y ps × (x.0 ≡ path_of y) = from_map path_of x.0 ps i in
-        true≢false (sym (meets-refl (f x.0)) ∙ ap (λ z. meets (f x.0) (f z)) r.2 ∙ s.0 (f r.0.0) (in_moved f r.0 ps r.1))
+        true≢false (sym (meets-refl x.0) ∙ ap (meets x.0) r.2 ∙ s.0 r.0.0 (in_paths r.0 ps r.1))
 
 differ_insert : (x : Pair) (ys : List Pair) → Differ (map path_of (x ∷ ys)) → Differ (map path_of (insert_by path_of x ys))
 differ_insert x [] d = d
@@ -100,20 +102,20 @@ number_there f start (p ∷ ps) q d i = by (λ j. number_there f start ps q d j)
 
 -- ---- the column's layout
 
-module _ (rs : List Receipt) (first k : ℕ) (p : Plan) (l : LayoutData ℕ) (written : List (List ℕ)) (done : IsDone p k l written) (stands : StandsIn rs k p) where
+module _ (rs : List Receipt) (first : ℕ) (p : Plan) (l : LayoutData ℕ) (written : List (List ℕ)) (done : IsDone p l written) (stands : StandsIn rs p) where
   abbrev own : List (List ℕ)
   own = map path_of (sorted p.pairs)
 
   abbrev place : Numbering
   place = place_or own (λ q. 0)
 
-  abbrev there : Numbering
-  there = λ q. number_by first rs (at_column k q)
+  written_are : written ≡ own
+  written_are = done.paths_are ∙ paths_are (sorted p.pairs)
 
   stand : AllIn written (written_paths rs)
   stand q i =
-      let r : (x : Pair) × In x (sorted p.pairs) × (q ≡ at_column k x.0) = from_map (λ (x : Pair). at_column k x.0) q (sorted p.pairs) (subst (In q) done.paths_are i) in
-      subst (λ z. In z (written_paths rs)) (sym r.2) (stands.stand (at_column k r.0.0) (in_moved (at_column k) r.0 p.pairs (from_sorted path_of r.0 p.pairs r.1)))
+      let r : (x : Pair) × In x (sorted p.pairs) × (q ≡ path_of x) = from_map path_of q (sorted p.pairs) (subst (In q) written_are i) in
+      subst (λ z. In z (written_paths rs)) (sym r.2) (stands.stand r.0.0 (in_paths r.0 p.pairs (from_sorted path_of r.0 p.pairs r.1)))
 
   many : length own ≡ length p.pairs
   many = length-map (sorted p.pairs) path_of ∙ length-sort_by path_of p.pairs
@@ -122,16 +124,14 @@ module _ (rs : List Receipt) (first k : ℕ) (p : Plan) (l : LayoutData ℕ) (wr
   by_place : (f : Numbering) → AgreeOn own f place → renamed f p.layout ≡ l
   by_place f e = sym (done.laid f
       (sym (map_twice path_of f (sorted p.pairs))
-      ∙ numbers_are 0 (λ q. 0) f own (differ_sorted p.pairs (differ_pairs (at_column k) p.pairs stands.apart)) (λ q i. let s : f q ≡ place q = e q i in omega (arith, s))
+      ∙ numbers_are 0 (λ q. 0) f own (differ_sorted p.pairs (differ_pairs p.pairs stands.apart)) (λ q i. let s : f q ≡ place q = e q i in omega (arith, s))
       ∙ ap (numbers_from 0) many))
 
-  pub numbered_is : (m : LayoutData ℕ) (numbers : List ℕ) → (AllIn written (written_paths rs) → numbers ≡ map (number_by first rs) written) → m ≡ renamed (number_at numbers) l → m ≡ renamed there p.layout
+  pub numbered_is : (m : LayoutData ℕ) (numbers : List ℕ) → (AllIn written (written_paths rs) → numbers ≡ map (number_by first rs) written) → m ≡ renamed (number_at numbers) l
+      → m ≡ renamed (number_by first rs) p.layout
   numbered_is m numbers given same =
       same ∙ ap (renamed (number_at numbers)) (sym (by_place place (λ q i. refl))) ∙ renamed_twice place (number_at numbers) p.layout
-      ∙ named_alone p.layout own l (λ q. 0) by_place (λ q. number_at numbers (place q)) there agree
+      ∙ named_alone p.layout own l (λ q. 0) by_place (λ q. number_at numbers (place q)) (number_by first rs) agree
     where
-      numbers_are_so : numbers ≡ map there own
-      numbers_are_so = given stand ∙ ap (map (number_by first rs)) done.paths_are ∙ map_twice (λ (x : Pair). at_column k x.0) (number_by first rs) (sorted p.pairs) ∙ sym (map_twice path_of there (sorted p.pairs))
-
-      agree : AgreeOn own (λ q. number_at numbers (place q)) there
-      agree q i = ap (λ ns. number_at ns (place q)) numbers_are_so ∙ number_there there (λ q. 0) own q (place q) i
+      agree : AgreeOn own (λ q. number_at numbers (place q)) (number_by first rs)
+      agree q i = ap (λ ns. number_at ns (place q)) (given stand ∙ ap (map (number_by first rs)) written_are) ∙ number_there (number_by first rs) (λ q. 0) own q (place q) i

@@ -1,5 +1,5 @@
 -- The columns' layouts under the numbers that a shared sink gave, and which refusal is told.
-use Rattle.std.specs.Prelude.{◌≡◌, ◌<◌, ℕ, suc, Bool, true, false, List, [], ◌∷◌, Result, Ok, Err, Option, Some, None, slice_get}
+use Rattle.std.specs.Prelude.{◌≡◌, ◌<◌, ℕ, Bool, true, false, List, [], ◌∷◌, map, Result, Ok, Err, Option, Some, None, slice_get}
 use Rattle.std.specs.Global.{Vec}
 use Rattle.vx_path.specs.Lists.{In}
 use Rattle.vx_path.specs.Path.{Scattered}
@@ -10,7 +10,6 @@ use Rattle.vx_layout_tree.specs.declared.layout.Layout.{Layout}
 use Rattle.vx_plan.specs.PlanData.{Plan, paths}
 use Rattle.vx_order_answer.specs.declared.receipt.Receipt.{Receipt}
 use Rattle.vx_seats.specs.History.{paths as written_paths}
-use Rattle.vx_moved_plans.specs.Moved.{moved_pairs, at_column}
 use Rattle.vx_column_plan.specs.Shared.{number_by}
 use Rattle.vx_column_machine.specs.Causes.{IsDone}
 use Rattle.vx_write_answer.specs.declared.error.WriteError.{WriteError}
@@ -22,30 +21,29 @@ use Rattle.vx_write_answer.specs.declared.error.WriteError.TheVariants.{Stopped}
 abbrev pub ColumnOutcome : Type 0
 ColumnOutcome = Result (Layout × Vec Path) WriteError
 
--- each column from k on was written, by these plans
-abbrev pub AllDone : ℕ → List Plan → List ColumnOutcome → Type 0
-AllDone k [] [] = Unit {0}
-AllDone k (p ∷ ps) (Ok r ∷ os) = IsDone p k (layout_data r.0) r.1.items × AllDone (suc k) ps os
-AllDone k ps os = ⊥
+-- each column was written, by these plans
+abbrev pub AllDone : List Plan → List ColumnOutcome → Type 0
+AllDone [] [] = Unit {0}
+AllDone (p ∷ ps) (Ok r ∷ os) = IsDone p (layout_data r.0) r.1.items × AllDone ps os
+AllDone ps os = ⊥
 
 -- each path is one of the others
 abbrev pub AllIn : List (List ℕ) → List (List ℕ) → Type 0
 AllIn ps qs = (path : List ℕ) → In path ps → In path qs
 
--- What column k wrote stands in the history, each segment at a path of its own in the struct.
-pub record StandsIn (rs : List Receipt) (k : ℕ) (p : Plan) : Type 0 where
-  pub apart : Scattered (paths (moved_pairs (at_column k) p.pairs))
-  pub stand : AllIn (paths (moved_pairs (at_column k) p.pairs)) (written_paths rs)
+-- What a column wrote stands in the history, each segment at a path of its own.
+pub record StandsIn (rs : List Receipt) (p : Plan) : Type 0 where
+  pub apart : Scattered (paths p.pairs)
+  pub stand : AllIn (paths p.pairs) (written_paths rs)
 
--- so does what all columns from k on wrote
-abbrev pub AllStandIn : List Receipt → ℕ → List Plan → Type 0
-AllStandIn rs k [] = Unit {0}
-AllStandIn rs k (p ∷ ps) = StandsIn rs k p × AllStandIn rs (suc k) ps
+-- so does what all columns wrote
+abbrev pub AllStandIn : List Receipt → List Plan → Type 0
+AllStandIn rs [] = Unit {0}
+AllStandIn rs (p ∷ ps) = StandsIn rs p × AllStandIn rs ps
 
--- the columns' layouts, with the numbers that their paths have in the struct
-abbrev pub layouts_by : (List ℕ → ℕ) → ℕ → List Plan → List (LayoutData ℕ)
-layouts_by number k [] = []
-layouts_by number k (p ∷ ps) = renamed (λ path. number (at_column k path)) p.layout ∷ layouts_by number (suc k) ps
+-- the columns' layouts, with these numbers of their paths
+abbrev pub layouts_by : (List ℕ → ℕ) → List Plan → List (LayoutData ℕ)
+layouts_by number ps = map (λ (p : Plan). renamed number p.layout) ps
 
 -- ---- refusals
 
@@ -77,8 +75,8 @@ pub record IsFirstOwn (os : List ColumnOutcome) (e : WriteError) : Type 0 where
 
 -- ---- one column
 
--- where it was written its layout has the numbers of its paths in the struct; where it was stopped there is none
+-- where it was written its layout has the numbers of its paths; where it was stopped there is none
 abbrev pub IsLaid : List Receipt → ColumnOutcome → Option Layout → Type 0
-IsLaid rs (Ok r) (Some l) = (first k : ℕ) (p : Plan) → IsDone p k (layout_data r.0) r.1.items → StandsIn rs k p → layout_data l ≡ renamed (λ path. number_by first rs (at_column k path)) p.layout
+IsLaid rs (Ok r) (Some l) = (first : ℕ) (p : Plan) → IsDone p (layout_data r.0) r.1.items → StandsIn rs p → layout_data l ≡ renamed (number_by first rs) p.layout
 IsLaid rs (Err e) None = is_stop e ≡ true
 IsLaid rs o l = ⊥

@@ -7,7 +7,6 @@ ghost use Rattle.vx_layout_spec.specs.LayoutTree.{renamed, struct_layout};
 ghost use Rattle.vx_layout_tree.specs.LayoutView.{layout_data, number};
 ghost use Rattle.vx_plan.specs.PlanData.{Plan};
 ghost use Rattle.vx_seats.specs.History.{ascends, paths as all_paths};
-ghost use Rattle.vx_moved_plans.specs.Moved.{at_column};
 ghost use Rattle.vx_column_plan.specs.Shared.{number_by};
 ghost use Rattle.vx_column_machine.specs.Causes.{IsDone};
 ghost use Rattle.vx_column_ways.specs.ColumnCount.{columns_of};
@@ -37,8 +36,8 @@ pub fn joined(
     requires ascends { ascends (all_paths history.items) ≡ true }
     // Where a column was stopped, another was refused.
     requires own { AllOk outcomes.items ⊎ HasOwn outcomes.items }
-    ensures laid { IfOk result (λ l. (first : ℕ) (ps : List Plan) → AllDone 0 ps outcomes.items → AllStandIn history.items 0 ps
-        → layout_data l ≡ struct_layout (ty dtype) rows (layouts_by (number_by first history.items) 0 ps)) }
+    ensures laid { IfOk result (λ l. (first : ℕ) (ps : List Plan) → AllDone ps outcomes.items → AllStandIn history.items ps
+        → layout_data l ≡ struct_layout (ty dtype) rows (layouts_by (number_by first history.items) ps)) }
     ensures all { OnOk result (AllOk outcomes.items) }
     ensures refused { IfErr result (λ e. (e ≡ WriteError.OutOfMemory) ⊎ IsFirstOwn outcomes.items e) }
 {
@@ -58,8 +57,8 @@ fn all_numbered(
 ) -> Result<Vec<Layout>, WriteError>
     requires ascends { ascends (all_paths history.now) ≡ true }
     requires own { AllOk outcomes.items ⊎ HasOwn outcomes.items }
-    ensures laid { IfOk result (λ v. (first : ℕ) (ps : List Plan) → AllDone 0 ps outcomes.items → AllStandIn history.now 0 ps
-        → map layout_data v.items ≡ layouts_by (number_by first history.now) 0 ps) }
+    ensures laid { IfOk result (λ v. (first : ℕ) (ps : List Plan) → AllDone ps outcomes.items → AllStandIn history.now ps
+        → map layout_data v.items ≡ layouts_by (number_by first history.now) ps) }
     ensures count { IfOk result (λ v. vec_len v ≡ vec_len outcomes) }
     ensures all { OnOk result (AllOk outcomes.items) }
     ensures refused { IfErr result (λ e. (e ≡ WriteError.OutOfMemory) ⊎ IsFirstOwn outcomes.items e) }
@@ -111,8 +110,8 @@ fn numbered(
     history: &[Receipt],
 ) -> Result<Layout, AllocError>
     requires { ascends (all_paths history.now) ≡ true }
-    ensures { IfOk result (λ l. (first k : ℕ) (p : Plan) → IsDone p k (layout_data layout.now) paths.now → StandsIn history.now k p
-        → layout_data l ≡ renamed (λ path. number_by first history.now (at_column k path)) p.layout) }
+    ensures { IfOk result (λ l. (first : ℕ) (p : Plan) → IsDone p (layout_data layout.now) paths.now → StandsIn history.now p
+        → layout_data l ≡ renamed (number_by first history.now) p.layout) }
 {
     let numbers = numbers_at(alloc, paths, history)?;
     renumbered(alloc, layout, numbers.as_slice())

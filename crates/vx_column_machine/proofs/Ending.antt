@@ -3,20 +3,17 @@ use Rattle.std.proofs.Common.{◌≡◌, ◌∷◌, ◌++◌, ◌∙◌, ℕ, tr
 use Rattle.vx_model.specs.ChunkData.{ChunkData}
 use Rattle.vx_layout_spec.specs.LayoutTree.{LayoutData, renamed}
 use Rattle.vx_path.proofs.Sort.{length-sort_by}
-use Rattle.vx_tasks.specs.Runs.{first_batch}
-use Rattle.vx_plan.specs.PlanData.{Pair, Plan}
+use Rattle.vx_plan.specs.PlanData.{Pair, Plan, paths as paths_of}
 use Rattle.vx_plan.specs.Number.{path_of, sorted}
 use Rattle.vx_plan.specs.Valid.{Fit}
-use Rattle.vx_path.specs.Path.{column_eof}
-use Rattle.vx_named_tasks.specs.Names.{onward}
 use Rattle.vx_machine_turns.specs.Source.{stream_plan}
 use Rattle.vx_machine_state.specs.Acts.{layouts_in}
 use Rattle.vx_machine_view.specs.Machine.{Machine, is_finished}
 use Rattle.vx_machine_runs.specs.Courses.{Numbered, FinishedBy, CourseEnds, CourseFits}
 use Rattle.vx_machine.specs.Progress.{numbers_from}
-use Rattle.vx_column_machine.specs.Course.{Course, write_of, outset_of, plan_of, paths_at, StandsAt}
+use Rattle.vx_column_machine.specs.Course.{Course, write_of, outset_of, plan_of, StandsAt}
 use Rattle.vx_column_machine.specs.Causes.{IsDone}
-use Rattle.vx_column_machine.proofs.Begins.{can_begin}
+use Rattle.vx_column_machine.proofs.Begins.{can_taken}
 use Rattle.vx_column_machine.proofs.Leading.{has_come}
 
 module _ (ends : CourseEnds) (fits : CourseFits) (x : Course) (m : Machine) (to_come : Option (List ChunkData)) (written : ℕ) (paths : List (List ℕ)) (h : StandsAt x m to_come written paths)
@@ -25,19 +22,19 @@ module _ (ends : CourseEnds) (fits : CourseFits) (x : Course) (m : Machine) (to_
   fin_there = ap is_finished (sym h.machine_is) ∙ fin
 
   abbrev taken_plan : Plan
-  taken_plan = stream_plan x.setting x.column.way x.column.type x.column.mark (outset_of x.number) h.point.taken true
+  taken_plan = stream_plan x.setting x.column.way x.column.type x.column.mark (outset_of x) h.point.taken true
 
   ended : FinishedBy taken_plan h.point
-  ended = ends (write_of x) (onward first_batch) (column_eof x.number) h.notes h.point (has_come x m to_come written paths h).come (can_begin x.number (length h.point.taken)) fin_there
+  ended = ends (write_of x) (outset_of x).names (outset_of x).eof h.notes h.point (has_come x m to_come written paths h).come (can_taken x h.point.taken h.later h.taken) fin_there
 
   all_taken : x.chunks ≡ h.point.taken
   all_taken = h.taken ∙ ap (λ z. h.point.taken ++ z) (h.ended ended.heard) ∙ append-nil h.point.taken
 
   plan_is : taken_plan ≡ plan_of x
-  plan_is = ap (λ z. stream_plan x.setting x.column.way x.column.type x.column.mark (outset_of x.number) z true) (sym all_taken)
+  plan_is = ap (λ z. stream_plan x.setting x.column.way x.column.type x.column.mark (outset_of x) z true) (sym all_taken)
 
   fit : Fit taken_plan.numbers
-  fit = fits (write_of x) (onward first_batch) (column_eof x.number) h.notes h.point (has_come x m to_come written paths h).come (can_begin x.number (length h.point.taken)) fin_there (omega arith) (omega arith) h.first h.counts
+  fit = fits (write_of x) (outset_of x).names (outset_of x).eof h.notes h.point (has_come x m to_come written paths h).come (can_taken x h.point.taken h.later h.taken) fin_there (omega arith) (omega arith) h.first h.counts
 
   history_is : h.point.history ≡ sorted (plan_of x).pairs
   history_is = ended.appended ∙ ap (λ (z : Plan). sorted z.pairs) plan_is
@@ -54,10 +51,10 @@ module _ (ends : CourseEnds) (fits : CourseFits) (x : Course) (m : Machine) (to_
       head : l ∷ [] ≡ renamed number taken_plan.layout ∷ [] → l ≡ renamed number taken_plan.layout
       head e = cc
 
-  pub done_is : IsDone (plan_of x) x.number l paths
+  pub done_is : IsDone (plan_of x) l paths
   done_is = record {
     faultless = ap (λ (z : Plan). z.faults) (sym plan_is) ∙ ended.faultless;
     fit = subst (λ (z : Plan). Fit z.numbers) plan_is fit;
     laid = laid;
-    paths_are = h.paths_are ∙ ap (paths_at x.number) history_is;
+    paths_are = h.paths_are ∙ ap paths_of history_is;
   }

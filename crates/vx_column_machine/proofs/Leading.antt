@@ -7,14 +7,10 @@ use Rattle.vx_fault.specs.Told.{NoneTold}
 use Rattle.vx_path.specs.Lists.{In}
 use Rattle.vx_tasks.specs.Rules.{AtLeast}
 use Rattle.vx_tasks.specs.Run.{Note, first_pick}
-use Rattle.vx_tasks.specs.Runs.{first_batch}
 use Rattle.vx_order.specs.Outlet.{Outlet, own}
-use Rattle.vx_plan.specs.PlanData.{Pair}
+use Rattle.vx_plan.specs.PlanData.{Pair, paths as paths_of}
 use Rattle.vx_plan.specs.Number.{sorted}
 use Rattle.vx_write_answer.specs.declared.step.Step.{Step}
-use Rattle.vx_moved_plans.specs.Moved.{at_column}
-use Rattle.vx_path.specs.Path.{column_eof}
-use Rattle.vx_named_tasks.specs.Names.{onward}
 use Rattle.vx_machine_turns.specs.Source.{stream_plan}
 use Rattle.vx_machine_steps.specs.Runs.{picks_after}
 use Rattle.vx_machine_promises.specs.Write.{Write, Future, Open, Answer, unasked, came, over, taken_by, heard_by}
@@ -25,8 +21,8 @@ use Rattle.vx_machine_runs.specs.Courses.{Point, Goes, GoesBy, CountedBelow, Cou
 use Rattle.vx_machine_runs.proofs.Coursing.{picked_more}
 use Rattle.vx_machine.specs.Progress.{HasCome, GoesOnFrom, LeadsOn}
 use Rattle.vx_machine.specs.SourceActs.{Tells}
-use Rattle.vx_column_machine.specs.Course.{Course, write_of, start_of, outset_of, plan_of, paths_at, StandsAt}
-use Rattle.vx_column_machine.proofs.Begins.{can_begin}
+use Rattle.vx_column_machine.specs.Course.{Course, write_of, start_of, outset_of, plan_of, StandsAt}
+use Rattle.vx_column_machine.proofs.Begins.{can_all}
 
 -- a desk that numbered so many segments, of which these weren't taken
 abbrev pub outlet : ℕ → List (List ℕ) → Outlet
@@ -66,14 +62,14 @@ told_on t chunks taken later heard before (Some rest) (came b) h e is end =
     same : Some later ≡ Some (b ∷ rest) → later ≡ b ∷ rest
     same f = cc
 
-paths_append : (k : ℕ) (xs ys : List Pair) → paths_at k (xs ++ ys) ≡ paths_at k xs ++ paths_at k ys
-paths_append k [] ys = refl
-paths_append k (x ∷ xs) ys = ap (λ z. at_column k x.0 ∷ z) (paths_append k xs ys)
+paths_append : (xs ys : List Pair) → paths_of (xs ++ ys) ≡ paths_of xs ++ paths_of ys
+paths_append [] ys = refl
+paths_append (x ∷ xs) ys = ap (λ z. x.0 ∷ z) (paths_append xs ys)
 
 -- ---- where it stands
 
 module _ (x : Course) (m : Machine) (to_come : Option (List ChunkData)) (written : ℕ) (paths : List (List ℕ)) (h : StandsAt x m to_come written paths) where
-  abbrev pub has_come : HasCome (write_of x) (onward first_batch) (column_eof x.number) h.notes h.point m
+  abbrev pub has_come : HasCome (write_of x) (outset_of x).names (outset_of x).eof h.notes h.point m
   has_come = record { come = record { careful = h.careful; starts = h.starts; picked = h.picked; comes = h.comes }; machine_is = h.machine_is }
 
   -- the chunks that are still to come
@@ -86,16 +82,16 @@ module _ (x : Course) (m : Machine) (to_come : Option (List ChunkData)) (written
   -- what was written are the first pairs of the plan
   pub front_of : CourseIsFront → (more : List Pair) × (sorted (plan_of x).pairs ≡ h.point.history ++ more) × ((p : Pair) → In p more → AtLeast (machine_ids m) p.0)
   front_of front =
-      let e = front (write_of x) (onward first_batch) (column_eof x.number) h.notes h.point has_come.come future may_come (can_begin x.number (length (h.point.taken ++ h.later))) in (
+      let e = front (write_of x) (outset_of x).names (outset_of x).eof h.notes h.point has_come.come future may_come (can_all x (h.point.taken ++ h.later) h.taken) in (
         e.0,
-        ap (λ z. sorted (stream_plan x.setting x.column.way x.column.type x.column.mark (outset_of x.number) z true).pairs) h.taken ∙ e.1,
+        ap (λ z. sorted (stream_plan x.setting x.column.way x.column.type x.column.mark (outset_of x) z true).pairs) h.taken ∙ e.1,
         λ p i. subst (λ z. AtLeast (machine_ids z) p.0) (sym h.machine_is) (e.2 p i),
       )
 
 -- ---- one step
 
 module _ (x : Course) (m : Machine) (to_come : Option (List ChunkData)) (written : ℕ) (paths : List (List ℕ)) (h : StandsAt x m to_come written paths) (now : Option (List ChunkData)) (kept kept_now : List (List ℕ))
-    (written_now : ℕ) (new : Machine) (s : Step) (l : LeadsOn (write_of x) (onward first_batch) (column_eof x.number) h.notes h.point to_come now (outlet written kept) (outlet written_now kept_now) new s) (picked : s.picked ≡ 0 % s.ready) where
+    (written_now : ℕ) (new : Machine) (s : Step) (l : LeadsOn (write_of x) (outset_of x).names (outset_of x).eof h.notes h.point to_come now (outlet written kept) (outlet written_now kept_now) new s) (picked : s.picked ≡ 0 % s.ready) where
   picked_now : PickedBy [] (h.notes ++ (l.note ∷ []))
   picked_now = picked_more [] h.notes l.note h.picked
       (sym l.shows.1 ∙ picked ∙ ap (λ z. 0 % z) l.shows.0 ∙ ap (λ z. z % l.note.ready) (sym (none_picked (length h.notes))))
@@ -110,7 +106,7 @@ module _ (x : Course) (m : Machine) (to_come : Option (List ChunkData)) (written
   numbers_now = l.numbers 0 (h.written_is, h.numbers)
 
   -- it stands there, with what it wrote
-  pub stands_on : (paths_now : List (List ℕ)) → paths_now ≡ paths ++ paths_at x.number l.goes.step.wrote → StandsAt x new now written_now paths_now
+  pub stands_on : (paths_now : List (List ℕ)) → paths_now ≡ paths ++ paths_of l.goes.step.wrote → StandsAt x new now written_now paths_now
   stands_on paths_now e = record {
     notes = h.notes ++ (l.note ∷ []);
     point = l.point;
@@ -128,8 +124,8 @@ module _ (x : Course) (m : Machine) (to_come : Option (List ChunkData)) (written
     typed = h.typed;
     written_is = numbers_now.0;
     numbers = numbers_now.1;
-    paths_are = e ∙ ap (λ z. z ++ paths_at x.number l.goes.step.wrote) h.paths_are ∙ sym (paths_append x.number h.point.history l.goes.step.wrote)
-        ∙ ap (λ (z : Point). paths_at x.number z.history) (sym l.goes.left);
+    paths_are = e ∙ ap (λ z. z ++ paths_of l.goes.step.wrote) h.paths_are ∙ sym (paths_append h.point.history l.goes.step.wrote)
+        ∙ ap (λ (z : Point). paths_of z.history) (sym l.goes.left);
   }
 
   -- what is written is the next pair of the plan
@@ -139,7 +135,7 @@ module _ (x : Course) (m : Machine) (to_come : Option (List ChunkData)) (written
 
     pub behind : (more : List Pair) × (sorted (plan_of x).pairs ≡ l.point.history ++ more) × ((q : Pair) → In q more → AtLeast (machine_ids new) q.0)
     unfolding stands_on
-    behind = front_of x new now written_now (paths ++ paths_at x.number l.goes.step.wrote) (stands_on (paths ++ paths_at x.number l.goes.step.wrote) refl) front
+    behind = front_of x new now written_now (paths ++ paths_of l.goes.step.wrote) (stands_on (paths ++ paths_of l.goes.step.wrote) refl) front
 
     pub history_is : sorted (plan_of x).pairs ≡ (h.point.history ++ (p ∷ [])) ++ behind.0
     history_is = behind.1 ∙ ap (λ (z : Point). z.history ++ behind.0) l.goes.left ∙ ap (λ z. (h.point.history ++ z) ++ behind.0) one

@@ -4,10 +4,9 @@ use Rattle.std.proofs.lemmas.Bool.{true≢false}
 use Rattle.vx_model.specs.Ty.{Ty}
 use Rattle.vx_model.specs.ChunkData.{ChunkData, piece_type}
 use Rattle.vx_path.specs.Lists.{In}
-use Rattle.vx_path.specs.Path.{column_eof}
 use Rattle.vx_path.proofs.Sort.{length-sort_by}
 use Rattle.vx_tasks.specs.Run.{Note, nth, first_pick}
-use Rattle.vx_tasks.specs.Runs.{first_batch, noted}
+use Rattle.vx_tasks.specs.Runs.{noted}
 use Rattle.vx_order.specs.Answers.{IsPast, IsShared}
 use Rattle.vx_plan.specs.PlanData.{Plan, What, not_struct, duplicate_field, forbidden_aggregate}
 use Rattle.vx_plan.specs.Number.{path_of, sorted}
@@ -16,7 +15,7 @@ use Rattle.vx_plan.specs.Valid.{OfSchema, Has}
 use Rattle.vx_plan.specs.Valid as valid
 use Rattle.vx_write_answer.specs.declared.error.WriteError.{WriteError}
 use Rattle.vx_write_answer.specs.declared.error.WriteError.TheVariants.{SourceFault, SinkFault, CompressFault, BatchType, NotStruct, DuplicateField, ManyChunks, EmptyList, ZoneCut, ForbiddenAggregate, ForbiddenEncoding, TooLarge, OutOfMemory, Stopped}
-use Rattle.vx_named_tasks.specs.Names.{Names, onward}
+use Rattle.vx_named_tasks.specs.Names.{Names}
 use Rattle.vx_machine_turns.specs.Planned.{StartFaultsAgree}
 use Rattle.vx_machine_turns.specs.Starts.{start_fault as form_fault}
 use Rattle.vx_machine_turns.specs.Source.{named_items, stream_plan}
@@ -44,7 +43,7 @@ use Rattle.vx_machine.proofs.Fewness.{Few, whole_few}
 use Rattle.vx_machine.proofs.Going.{asking}
 use Rattle.vx_column_machine.specs.Course.{Course, write_of, outset_of, plan_of, StandsAt}
 use Rattle.vx_column_machine.specs.Causes.{Passes, IsNumberPast, HasCause}
-use Rattle.vx_column_machine.proofs.Begins.{can_begin}
+use Rattle.vx_column_machine.proofs.Begins.{can_all, can_taken}
 use Rattle.vx_column_machine.proofs.Leading.{outlet, none_picked, cons_none, has_come}
 
 -- ---- what the source told
@@ -96,7 +95,7 @@ module _ (x : Course) (m : Machine) (to_come : Option (List ChunkData)) (written
   asks = asking h.point.machine.phase k r.told (subst (λ (z : Machine). AsksAt z.phase k r.told) h.machine_is r.asks)
 
   once : BeforeEnd h.point.heard r.told
-  once = asked_before (write_of x) (onward first_batch) (column_eof x.number) h.notes h.point r.told k (has_come x m to_come written paths h).come asks
+  once = asked_before (write_of x) (outset_of x).names (outset_of x).eof h.notes h.point r.told k (has_come x m to_come written paths h).come asks
 
   rest : (rest : List ChunkData) × (x.chunks ≡ taken_by h.point.taken r.told ++ rest) × (heard_by h.point.heard r.told ≡ true → rest ≡ [])
   rest = rest_then h.point.machine.phase k x.column.type x.chunks h.point.taken h.later h.point.heard to_come now e r.told tells h.told h.taken h.ended
@@ -110,16 +109,16 @@ module _ (x : Course) (m : Machine) (to_come : Option (List ChunkData)) (written
   abbrev taken : List ChunkData
   taken = taken_by h.point.taken r.told
 
-  planned_is : planned_at (write_of x) (outset_of x.number) taken future ≡ plan_of x
-  planned_is = ap (λ z. stream_plan x.setting x.column.way x.column.type x.column.mark (outset_of x.number) z true) (sym rest.1)
+  planned_is : planned_at (write_of x) (outset_of x) taken future ≡ plan_of x
+  planned_is = ap (λ z. stream_plan x.setting x.column.way x.column.type x.column.mark (outset_of x) z true) (sym rest.1)
 
   -- ---- of batches of the type
   module _ (fits : r.step.misfit ≡ false) where
     chosen : ChosenAt (write_of x) h.point r.told number k r.step
     chosen = record { place = place; asks = asks; typed = refused_typed h.point.machine.phase k x.column.type to_come now e r.told tells; once = once; fits = fits }
 
-    there : CausedThere (write_of x) (outset_of x.number) h.notes h.point taken future k r.step
-    there = causes (write_of x) (onward first_batch) (column_eof x.number) h.notes h.point r.told number k r.step future (has_come x m to_come written paths h).come chosen may_come (can_begin x.number (length (taken ++ rest.0)))
+    there : CausedThere (write_of x) (outset_of x) h.notes h.point taken future k r.step
+    there = causes (write_of x) (outset_of x).names (outset_of x).eof h.notes h.point r.told number k r.step future (has_come x m to_come written paths h).come chosen may_come (can_all x (taken ++ rest.0) rest.1)
 
     caused : Caused (plan_of x) r.step
     caused = subst (λ z. Caused z r.step) planned_is there.caused
@@ -131,8 +130,8 @@ module _ (x : Course) (m : Machine) (to_come : Option (List ChunkData)) (written
     passes past = record {
       notes = h.notes;
       place = k;
-      comes = subst (λ z. Comes (write_of x) (begin_at (write_of x) (outset_of x.number) x.chunks (record { later = []; fits = true })) h.notes k z) counted
-          (subst (λ z. Comes (write_of x) (started_at x.column.way x.column.type x.column.mark (outset_of x.number) z true) h.notes k ((0 + reserved_by h.point.machine.root) + r.step.raises))
+      comes = subst (λ z. Comes (write_of x) (begin_at (write_of x) (outset_of x) x.chunks (record { later = []; fits = true })) h.notes k z) counted
+          (subst (λ z. Comes (write_of x) (started_at x.column.way x.column.type x.column.mark (outset_of x) z true) h.notes k ((0 + reserved_by h.point.machine.root) + r.step.raises))
           (sym rest.1 ∙ sym (append-nil x.chunks)) there.comes);
       past = past;
     }
@@ -149,8 +148,8 @@ module _ (x : Course) (m : Machine) (to_come : Option (List ChunkData)) (written
             record { told = r.told; number = number; step = r.step; place = place; asks = asks; typed = chosen.typed; once = once; fits = fits; unrefused = calm; note = refl; left = refl } in
             let pick : k ≡ first_pick (picks_after (length h.notes) []) % whole_ready (machine_ids h.point.machine) h.point.machine =
             k_is ∙ ap (λ z. 0 % whole_ready (machine_ids z) z) h.machine_is ∙ ap (λ z. z % whole_ready (machine_ids h.point.machine) h.point.machine) (sym (none_picked (length h.notes))) in
-            let led = on (write_of x) (onward first_batch) (column_eof x.number) h.notes h.point (point_after h.point r.told number r.step) n (has_come x m to_come written paths h).come d pick in
-            let f = front (write_of x) (onward first_batch) (column_eof x.number) (h.notes ++ (n ∷ [])) (point_after h.point r.told number r.step) led.0 future may_come (can_begin x.number (length (taken ++ rest.0))) in
+            let led = on (write_of x) (outset_of x).names (outset_of x).eof h.notes h.point (point_after h.point r.told number r.step) n (has_come x m to_come written paths h).come d pick in
+            let f = front (write_of x) (outset_of x).names (outset_of x).eof (h.notes ++ (n ∷ [])) (point_after h.point r.told number r.step) led.0 future may_come (can_all x (taken ++ rest.0) rest.1) in
             let all : sorted (plan_of x).pairs ≡ (h.point.history ++ r.step.wrote) ++ f.0 = ap (λ (z : Plan). sorted z.pairs) (sym planned_is) ∙ f.1 in
             let a : length (sorted (plan_of x).pairs) ≡ length (plan_of x).pairs = length-sort_by path_of (plan_of x).pairs in
             let b : length ((h.point.history ++ r.step.wrote) ++ f.0) ≡ length (h.point.history ++ r.step.wrote) + length f.0 = length-append (h.point.history ++ r.step.wrote) f.0 in
@@ -211,7 +210,7 @@ module _ (x : Course) (m : Machine) (to_come : Option (List ChunkData)) (written
     where
       by : (b : Bool) → r.step.misfit ≡ b → HasCause x e
       by false fits = fit_cause fits e refl r.cause
-      by true is = at_source (misfits (write_of x) (onward first_batch) (column_eof x.number) h.notes h.point r.told number k r.step (has_come x m to_come written paths h).come (can_begin x.number (length h.point.taken)) place is)
+      by true is = at_source (misfits (write_of x) (outset_of x).names (outset_of x).eof h.notes h.point r.told number k r.step (has_come x m to_come written paths h).come (can_taken x h.point.taken h.later h.taken) place is)
         where
           at_source : (ns : Names) × (h.point.machine.phase ≡ reading ns) × (k ≡ 0) × (r.told ≡ unasked) → HasCause x e
           at_source (d, p, z, a) = read_cause e refl
@@ -222,14 +221,14 @@ module _ (x : Course) (m : Machine) (to_come : Option (List ChunkData)) (written
 
 module _ (faults : StartFaultStands) (agree : StartFaultsAgree) (counts : CourseStartHasCause) (x : Course) (allowed : Allowed) (allowed_is : x.setting.allowed ≡ allowed) where
   fault_stands : (v : What) → form_fault x.setting (form_at x.column.way x.column.type) x.column.mark ≡ Some v → Has v (plan_of x).faults
-  fault_stands v is = faults x.setting x.column.way x.column.type x.column.mark v (sym (agree x.setting x.column.way x.column.type x.column.mark) ∙ is) (named_items (onward first_batch) x.chunks) true (column_eof x.number)
+  fault_stands v is = faults x.setting x.column.way x.column.type x.column.mark v (sym (agree x.setting x.column.way x.column.type x.column.mark) ∙ is) (named_items (outset_of x).names x.chunks) true (outset_of x).eof
 
-  pub start_cause : (e : WriteError) → FormRefused allowed (form_at x.column.way x.column.type) x.column.mark (column_eof x.number) e → HasCause x e
+  pub start_cause : (e : WriteError) → FormRefused allowed (form_at x.column.way x.column.type) x.column.mark (outset_of x).eof e → HasCause x e
   start_cause NotStruct h = fault_stands not_struct (h x.setting allowed_is)
   start_cause (DuplicateField name) h = fault_stands (duplicate_field name) (h x.setting allowed_is)
   start_cause (ForbiddenAggregate id) h = fault_stands (forbidden_aggregate id) (h x.setting allowed_is)
   start_cause (TooLarge n) h = inr (inl (subst (λ z. valid.IsPast z (plan_of x).numbers) (sym h.0)
-      (counts (write_of x) (onward first_batch) (column_eof x.number) (record { later = x.chunks; fits = true }) h.1.0 (can_begin x.number (length x.chunks)) h.1.1 h.1.2)))
+      (counts (write_of x) (outset_of x).names (outset_of x).eof (record { later = x.chunks; fits = true }) h.1.0 (can_all x x.chunks refl) h.1.1 h.1.2)))
   start_cause OutOfMemory h = tt
   start_cause SourceFault h = absurd h
   start_cause SinkFault h = absurd h

@@ -2,7 +2,7 @@
 use Rattle.std.specs.Prelude.{◌≡◌, ◌⊎◌, ◌^◌, ◌<◌, ◌≤◌, ℕ, true, List, [], map, length, Result, Ok, Err}
 use Rattle.vx_layout_spec.specs.LayoutTree.{LayoutData, renamed}
 use Rattle.vx_tasks.specs.Run.{Note}
-use Rattle.vx_plan.specs.PlanData.{Plan, not_struct, duplicate_field, many_chunks, empty_list, zone_cut, forbidden_aggregate, forbidden_encoding}
+use Rattle.vx_plan.specs.PlanData.{Plan, paths as paths_of, not_struct, duplicate_field, many_chunks, empty_list, zone_cut, forbidden_aggregate, forbidden_encoding}
 use Rattle.vx_plan.specs.Number.{sorted}
 use Rattle.vx_plan.specs.Valid.{Fit, IsPast, Has}
 use Rattle.vx_fault.specs.Counts.{Rose}
@@ -12,16 +12,16 @@ use Rattle.vx_machine_runs.specs.Tracked.{Comes}
 use Rattle.vx_machine.specs.Progress.{numbers_from}
 use Rattle.vx_write_answer.specs.declared.error.WriteError.{WriteError}
 use Rattle.vx_write_answer.specs.declared.error.WriteError.TheVariants.{SourceFault, SinkFault, CompressFault, BatchType, NotStruct, DuplicateField, ManyChunks, EmptyList, ZoneCut, ForbiddenAggregate, ForbiddenEncoding, TooLarge, OutOfMemory, Stopped}
-use Rattle.vx_column_machine.specs.Course.{Course, write_of, outset_of, plan_of, paths_at}
+use Rattle.vx_column_machine.specs.Course.{Course, write_of, outset_of, plan_of}
 
 -- ---- the end
 
 -- All of the column was written by this plan: whatever numbers are given to its paths, place by place, the layout has them.
-pub record IsDone (p : Plan) (k : ℕ) (l : LayoutData ℕ) (paths : List (List ℕ)) : Type 0 where
+pub record IsDone (p : Plan) (l : LayoutData ℕ) (paths : List (List ℕ)) : Type 0 where
   pub faultless : p.faults ≡ []
   pub fit : Fit p.numbers
   pub laid : (number : List ℕ → ℕ) → map (λ q. number q.0) (sorted p.pairs) ≡ numbers_from 0 (length p.pairs) → l ≡ renamed number p.layout
-  pub paths_are : paths ≡ paths_at k (sorted p.pairs)
+  pub paths_are : paths ≡ paths_of (sorted p.pairs)
 
 -- ---- refusals
 
@@ -29,7 +29,7 @@ pub record IsDone (p : Plan) (k : ℕ) (l : LayoutData ℕ) (paths : List (List 
 pub record Passes (x : Course) (n : ℕ) : Type 0 where
   pub notes : List Note
   pub place : ℕ
-  pub comes : Comes (write_of x) (begin_at (write_of x) (outset_of x.number) x.chunks (record { later = []; fits = true })) notes place n
+  pub comes : Comes (write_of x) (begin_at (write_of x) (outset_of x) x.chunks (record { later = []; fits = true })) notes place n
   pub past : 2 ^ 64 ≤ n
 
 -- some segment of the plan would have this number, past 32 bits

@@ -1,21 +1,18 @@
 -- A column's own write, and how far it has come.
-use Rattle.std.specs.Prelude.{◌≡◌, ℕ, ◌+◌, ◌^◌, true, List, [], ◌++◌, map, length, Option, Some, None}
+use Rattle.std.specs.Prelude.{◌≡◌, ℕ, ◌+◌, ◌^◌, true, List, [], ◌++◌, length, Option, Some, None}
 use Rattle.vx_model.specs.ChunkData.{ChunkData}
 use Rattle.vx_tasks.specs.Run.{Note}
-use Rattle.vx_tasks.specs.Runs.{first_batch}
-use Rattle.vx_named_tasks.specs.Names.{onward, Outset}
-use Rattle.vx_plan.specs.PlanData.{Setting, Pair, Plan}
+use Rattle.vx_named_tasks.specs.Names.{Outset, column_outset}
+use Rattle.vx_plan.specs.PlanData.{Setting, Plan, paths as paths_of}
 use Rattle.vx_plan.specs.SourcePlan.{start_fault}
 use Rattle.vx_plan.specs.Valid.{OfSchema}
 use Rattle.vx_column_plan.specs.Columns.{Column}
-use Rattle.vx_moved_plans.specs.Moved.{at_column}
-use Rattle.vx_path.specs.Path.{column_eof}
 use Rattle.vx_machine_turns.specs.Source.{stream_plan}
 use Rattle.vx_machine_promises.specs.Write.{Write}
 use Rattle.vx_machine_state.specs.Images.{Careful}
 use Rattle.vx_machine_state.specs.Start.{first_indices}
 use Rattle.vx_machine_view.specs.Machine.{Machine}
-use Rattle.vx_machine_view.specs.Whole.{form_of, outset_from}
+use Rattle.vx_machine_view.specs.Whole.{form_of}
 use Rattle.vx_machine_runs.specs.Runs.{PickedBy}
 use Rattle.vx_machine_runs.specs.Numbers.{AllBelow}
 use Rattle.vx_machine_runs.specs.Courses.{Point, start_point, GoesBy, CountedBelow}
@@ -32,20 +29,16 @@ pub record Course : Type 0 where
 abbrev pub write_of : Course → Write
 write_of x = record { setting = x.setting; way = x.column.way; type = x.column.type; mark = x.column.mark; tracker = 0; schedule = [] }
 
--- its batches are at [0, 0], [0, 1] and so on, and what is behind them goes on from the column's eof path
-abbrev pub outset_of : ℕ → Outset
-outset_of k = outset_from (onward first_batch) (column_eof k)
+-- it begins where the struct's node makes an id for each chunk of the column, and the eof path behind them
+abbrev pub outset_of : Course → Outset
+outset_of x = column_outset x.number (length x.chunks)
 
 abbrev pub start_of : Course → Point
-start_of x = start_point (write_of x) (onward first_batch) (column_eof x.number)
+start_of x = start_point (write_of x) (outset_of x).names (outset_of x).eof
 
 -- what it writes
 abbrev pub plan_of : Course → Plan
-plan_of x = stream_plan x.setting x.column.way x.column.type x.column.mark (outset_of x.number) x.chunks true
-
--- where pairs stand in the struct
-abbrev pub paths_at : ℕ → List Pair → List (List ℕ)
-paths_at k ps = map (λ p. at_column k p.0) ps
+plan_of x = stream_plan x.setting x.column.way x.column.type x.column.mark (outset_of x) x.chunks true
 
 -- It has come so far: the machine stands there, and the source still tells the other chunks. Segments are numbered from 0.
 pub record StandsAt (x : Course) (m : Machine) (to_come : Option (List ChunkData)) (written : ℕ) (paths : List (List ℕ)) : Type 0 where
@@ -56,7 +49,7 @@ pub record StandsAt (x : Course) (m : Machine) (to_come : Option (List ChunkData
   pub counts : CountedBelow (2 ^ 64) (write_of x) (start_of x) notes point comes
   pub careful : Careful x.setting
   pub starts : start_fault x.setting x.column.way x.column.type x.column.mark ≡ None
-  pub first : AllBelow (2 ^ 64) (first_indices (form_of (write_of x)) x.column.mark (column_eof x.number))
+  pub first : AllBelow (2 ^ 64) (first_indices (form_of (write_of x)) x.column.mark (outset_of x).eof)
   pub machine_is : m ≡ point.machine
   pub later : List ChunkData
   pub told : to_come ≡ Some later
@@ -65,4 +58,4 @@ pub record StandsAt (x : Course) (m : Machine) (to_come : Option (List ChunkData
   pub typed : OfSchema x.column.type x.chunks
   pub written_is : written ≡ 0 + length point.history
   pub numbers : point.numbers ≡ numbers_from 0 (length point.history)
-  pub paths_are : paths ≡ paths_at x.number point.history
+  pub paths_are : paths ≡ paths_of point.history

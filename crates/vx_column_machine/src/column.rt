@@ -1,6 +1,6 @@
 //! A column's own machine, step by step.
 
-ghost use Rattle.std.specs.Prelude.{◌≡◌, ◌+◌, ◌<◌, ◌^◌, false, true, [], Some, IsTrue, IfOk, IfErr, OnOk};
+ghost use Rattle.std.specs.Prelude.{◌≡◌, ◌≤◌, false, true, [], vec_len, IsTrue, IfOk, IfErr, OnOk};
 ghost use Rattle.vx_model.specs.TyView.{ty};
 ghost use Rattle.vx_seats.specs.Turns.{NeverFails};
 ghost use Rattle.vx_strategy.specs.StrategyView.{strategy_data};
@@ -8,6 +8,7 @@ ghost use Rattle.vx_sink.specs.ContextView.{is_marked, allowed_in, counted};
 ghost use Rattle.vx_layout_tree.specs.LayoutView.{layout_data};
 ghost use Rattle.vx_write_answer.specs.Causes.{is_compress_fault};
 ghost use Rattle.vx_desk.specs.DeskView.{universe_of};
+ghost use Rattle.vx_column_ids.specs.Outsets.{outset_of};
 ghost use Rattle.vx_machine_view.specs.Machine.{is_finished as has_finished};
 ghost use Rattle.vx_machine_node.specs.Ledger.{told_by};
 ghost use Rattle.vx_machine.specs.View.{machine_of};
@@ -16,20 +17,18 @@ ghost use Rattle.vx_column_machine.specs.Course.{Course, plan_of};
 ghost use Rattle.vx_column_machine.specs.Underway.{InBalance, Underway, IsFront, IsSet, IsGiven, Wrote};
 ghost use Rattle.vx_column_machine.specs.Causes.{IsDone, HasCause, StepPressed};
 
-use crate::paths::at_column;
 use std::alloc::{AllocError, Global};
-use vx_column_ids::column_pointers;
+use vx_column_ids::ColumnPart;
 use vx_desk::Desk;
 use vx_layout_tree::Layout;
 use vx_machine::Machine;
 use vx_path::owned::Path;
-use vx_sequence::SequenceId;
 use vx_sink::{BatchSource, CompressorPlugin, LayoutWriterContext};
 use vx_strategy::Strategy;
 use vx_write_answer::WriteError;
 
-/// A column of a struct that is written by itself. Its segments are handed out, with the paths at which the struct's node would
-/// write them; their numbers in its layout are places in the list of these paths.
+/// A column of a struct that is written by itself, at the ids that the struct's node makes for it. Its segments are handed out, and
+/// their numbers in its layout are places in the list of their paths.
 ///
 /// It must be spent, by `finish_with_paths` or `refuse`.
 pub struct ColumnMachine<B> {
@@ -43,41 +42,38 @@ pub struct ColumnMachine<B> {
 }
 
 impl<B: BatchSource + Drop> ColumnMachine<B> {
-    /// The machine before its first step. The context is the column's own, and counts nothing yet.
+    /// The machine before its first step, with the column's part: it holds an id for each chunk that the source gives. The context is
+    /// the column's own, and counts nothing yet. Refused, the part is given up.
     pub fn begin(
         alloc: Global,
         strategy: &Strategy,
         ctx: LayoutWriterContext,
         source: B,
         column: u64,
+        part: ColumnPart,
     ) -> Result<Self, WriteError>
-        requires fits { column + 2 < 2 ^ 64 }
+        requires enough { B.left source ≤ vec_len part.ids }
         requires none { counted ctx ≡ 0 }
         requires steady { NeverFails (B.may_fail source) }
         ensures balance { IfOk result (InBalance B.may_fail) }
-        ensures underway { IfOk result (λ c. (x : Course) → IsGiven (allowed_in ctx) (strategy_data strategy.now) (B.kind source) (is_marked ctx) column (B.to_come source) x → Underway B.to_come B.kind x c) }
+        ensures underway { IfOk result (λ c. (x : Course) → IsGiven (allowed_in ctx) (strategy_data strategy.now) (B.kind source) (is_marked ctx) column (outset_of part) (B.to_come source) x → Underway B.to_come B.kind B.left x c) }
         ensures context { IfOk result (λ c. told_by c.ctx ≡ told_by ctx) }
         ensures unwritten { IfOk result (λ c. c.paths.items ≡ []) }
-        ensures refused { IfErr result (λ e. (x : Course) → IsGiven (allowed_in ctx) (strategy_data strategy.now) (B.kind source) (is_marked ctx) column (B.to_come source) x → HasCause x e) }
+        ensures refused { IfErr result (λ e. (x : Course) → IsGiven (allowed_in ctx) (strategy_data strategy.now) (B.kind source) (is_marked ctx) column (outset_of part) (B.to_come source) x → HasCause x e) }
         ensures uncompressed { IfErr result (λ e. is_compress_fault e ≡ false) }
     {
         vx_plan::start_faults_stand();
         vx_machine_turns::start_faults_agree();
         vx_machine_runs::course_ends();
-        let Ok((mut universe, root)) = SequenceId::root(alloc) else {
-            return Err(WriteError::OutOfMemory);
-        };
-        let Ok((stream, eof)) = column_pointers(&mut universe, root, column) else {
-            return Err(WriteError::OutOfMemory);
-        };
+        let ColumnPart { universe, ids, eof } = part;
         let mut desk = Desk::new(alloc, universe);
-        let machine = Machine::start(
+        let machine = Machine::start_at(
             alloc,
             strategy,
             source.dtype(),
             &ctx,
             &mut desk,
-            stream,
+            ids,
             eof,
         )?;
         Ok(ColumnMachine {
@@ -99,12 +95,12 @@ impl<B: BatchSource + Drop> ColumnMachine<B> {
         self.machine.finished()
     }
 
-    /// Where the struct's node would write next, at the earliest; nothing where nothing more is written.
+    /// The least path at which it may still write; nothing where nothing more is written.
     pub fn front(&self) -> Result<Option<Path>, AllocError>
-        ensures { IfOk result (IsFront (universe_of self.now.desk) self.now.column) }
+        ensures { IfOk result (IsFront (universe_of self.now.desk)) }
     {
         match self.desk.least() {
-            Some(least) => Ok(Some(at_column(self.alloc, self.column, least)?)),
+            Some(least) => Ok(Some(Path::from_slice(self.alloc, least)?)),
             None => Ok(None),
         }
     }
@@ -130,15 +126,15 @@ impl<B: BatchSource + Drop> ColumnMachine<B> {
     ) -> Result<Option<Vec<u8>>, WriteError>
         requires balance { InBalance B.may_fail self.old }
         requires going { has_finished (machine_of self.old.machine) ≡ false }
-        requires underway { (x : Course) × IsSet (C.image (C.kind compressor.old)) x self.old × Underway B.to_come B.kind x self.old }
+        requires underway { (x : Course) × IsSet (C.image (C.kind compressor.old)) x self.old × Underway B.to_come B.kind B.left x self.old }
         ensures balance { InBalance B.may_fail self.new }
         ensures context { told_by self.new.ctx ≡ told_by self.old.ctx }
         ensures kind { C.kind compressor.new ≡ C.kind compressor.old }
         ensures pressed { StepPressed (C.faults compressor.old) (C.faults compressor.new) (C.may_fail compressor.old) (C.may_fail compressor.new) result }
-        ensures led { OnOk result ((x : Course) → IsSet (C.image (C.kind compressor.old)) x self.old → Underway B.to_come B.kind x self.old → Underway B.to_come B.kind x self.new) }
-        ensures wrote { IfOk result (λ w. (x : Course) → IsSet (C.image (C.kind compressor.old)) x self.old → Underway B.to_come B.kind x self.old
+        ensures led { OnOk result ((x : Course) → IsSet (C.image (C.kind compressor.old)) x self.old → Underway B.to_come B.kind B.left x self.old → Underway B.to_come B.kind B.left x self.new) }
+        ensures wrote { IfOk result (λ w. (x : Course) → IsSet (C.image (C.kind compressor.old)) x self.old → Underway B.to_come B.kind B.left x self.old
             → Wrote x self.old.paths.items self.new.paths.items w) }
-        ensures cause { IfErr result (λ e. (x : Course) → IsSet (C.image (C.kind compressor.old)) x self.old → Underway B.to_come B.kind x self.old → HasCause x e) }
+        ensures cause { IfErr result (λ e. (x : Course) → IsSet (C.image (C.kind compressor.old)) x self.old → Underway B.to_come B.kind B.left x self.old → HasCause x e) }
     {
         vx_least_writes::writes();
         vx_machine_runs::courses();
@@ -167,7 +163,7 @@ impl<B: BatchSource + Drop> ColumnMachine<B> {
     /// The layout, and the paths of its segments.
     pub fn finish_with_paths(self) -> (Layout, Vec<Path>)
         requires done { IsTrue (is_finished self.machine) × (has_finished (machine_of self.machine) ≡ true) }
-        ensures done { (x : Course) → Underway B.to_come B.kind x self → IsDone (plan_of x) x.number (layout_data result.0) result.1.items }
+        ensures done { (x : Course) → Underway B.to_come B.kind B.left x self → IsDone (plan_of x) (layout_data result.0) result.1.items }
         ensures paths { result.1.items ≡ self.paths.items }
     {
         vx_machine_runs::course_ends();

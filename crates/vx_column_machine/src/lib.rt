@@ -2,7 +2,5 @@
 #![tactic(auto)]
 
 mod column;
-mod paths;
 
 pub use column::ColumnMachine;
-pub use paths::first_path;

@@ -1,5 +1,5 @@
 -- A worker goes to another thread, and the sink and the tracker are shared by threads. Each type is shown from what it holds, since a search stops at tuples.
-use mathlib.Core.List.{List, [], ◌∷◌}
+use mathlib.Core.List.{[], ◌∷◌}
 use denote.RattleType.{RattleType}
 use denote.Builtin.{u64}
 use denote.Param.Send.{IsSend, IsSync, struct_send, struct_sync, enum_send, recorded_send, recorded_sync, sendable}
@@ -21,6 +21,9 @@ use Rattle.std.specs.contracts.sync.Mutex as Mutex
 use Rattle.std.specs.contracts.vec.Vec as Vec
 use Rattle.std.specs.declared.sync.ledger.Ledger.{Ghosts}
 use Rattle.vx_path.specs.contracts.owned.Path as Path
+use Rattle.vx_sequence.specs.contracts.active.Universe as Universe
+use Rattle.vx_sequence.specs.contracts.ids.SequenceId as SequenceId
+use Rattle.vx_sequence.specs.contracts.pointers.SequencePointer as SequencePointer
 use Rattle.vx_fault.specs.declared.fallible.Fallible as Fallible
 use Rattle.vx_fault.specs.contracts.fails.Fails as Fails
 use Rattle.vx_model.proofs.dtype.DType.TheLaws.TheKnot as types
@@ -44,6 +47,7 @@ use Rattle.vx_shared.specs.contracts.ordered.OrderedSink as OrderedSink
 use Rattle.vx_shared.specs.contracts.total.BytesSeat as BytesSeat
 use Rattle.vx_layout_sent.proofs.Crosses.{layout_sends}
 use Rattle.vx_write_answer.specs.contracts.error.WriteError as WriteError
+use Rattle.vx_column_ids.specs.contracts.part.ColumnPart as ColumnPart
 use Rattle.vx_column_inputs.specs.contracts.inputs.Input as Input
 use Rattle.vx_column_worker.specs.contracts.worker.Job as Job
 use Rattle.vx_column_worker.specs.contracts.worker.Done as Done
@@ -87,6 +91,18 @@ child_sends = search (values.crosses, strategies.crosses, sendable) depth 60 fit
 input_sends : IsSend (Input.the_field).row
 input_sends = search (child_sends, field_sends, source_sends, context_sends, sendable) depth 60 fits 20000
 
+universe_sends : IsSend (Universe.the_field).row
+universe_sends = search (values.crosses, sendable) depth 60 fits 20000
+
+id_sends : IsSend SequenceId.the_row
+id_sends = search (values.crosses, sendable) depth 60 fits 20000
+
+pointer_sends : IsSend (SequencePointer.the_field).row
+pointer_sends = search (values.crosses, sendable) depth 60 fits 20000
+
+part_sends : IsSend (ColumnPart.the_field).row
+part_sends = search (universe_sends, id_sends, pointer_sends, values.crosses, sendable) depth 60 fits 20000
+
 error_sends : IsSend WriteError.the_row
 error_sends = search (chunk_sends, values.crosses, sendable) depth 60 fits 20000
 
@@ -95,7 +111,7 @@ path_sends = search (values.crosses, sendable) depth 60 fits 20000
 
 job_sends : (C : RattleType) → IsSend C → IsSend (Job.the_row C)
 job_sends C c = let T = Job.the_type C in
-    recorded_send (Struct (S.shape T)) T.D T.to T.to_one (search (input_sends, c, values.crosses, sendable) depth 60 fits 20000)
+    recorded_send (Struct (S.shape T)) T.D T.to T.to_one (search (input_sends, part_sends, c, values.crosses, sendable) depth 60 fits 20000)
 
 paths_send : IsSend (Vec.the_row Path.the_row Global.the_row heap.ghosts)
 paths_send = values.Vec-send Path.the_row path_sends

@@ -11,7 +11,6 @@ use Rattle.vx_sink.specs.declared.context.LayoutWriterContext.{LayoutWriterConte
 use Rattle.vx_sink.specs.ContextView.{listed, allowed_in}
 use Rattle.vx_seats.specs.History as seats
 use Rattle.vx_setting.specs.Setting.{real}
-use Rattle.vx_moved_plans.specs.Moved.{at_column}
 use Rattle.vx_machine_state.specs.Images.{images_of}
 use Rattle.vx_machine_node.specs.Context.{setting_of}
 use Rattle.vx_machine_node.specs.Ledger.{told_by}
@@ -32,15 +31,15 @@ last_pushed xs q =
     (sym (ap (λ i. get_or (xs ++ (q ∷ [])) i q) last ∙ get_or-append_seam xs q [] q))
 
 module _ (x : Course) (before after : List (List ℕ)) (v : Vec ℕ) (w : Wrote x before after (Some v)) where
-  pub may_write : (allowed : List seats.Pair) → AllAllowed allowed x.number (plan_of x).pairs → MayWrite allowed after v.items
+  pub may_write : (allowed : List seats.Pair) → AllAllowed allowed (plan_of x).pairs → MayWrite allowed after v.items
   may_write allowed all = record {
-    path = at_column x.number w.0.0;
-    last = subst (λ (z : List (List ℕ)). slice_get z (length z - 1) ≡ Some (at_column x.number w.0.0)) (sym w.2) (last_pushed before (at_column x.number w.0.0));
-    may = subst (λ z. seats.bytes_for allowed (at_column x.number w.0.0) ≡ Some z) (sym w.3) (all w.0 w.1);
+    path = w.0.0;
+    last = subst (λ (z : List (List ℕ)). slice_get z (length z - 1) ≡ Some w.0.0) (sym w.2) (last_pushed before w.0.0);
+    may = subst (λ z. seats.bytes_for allowed w.0.0 ≡ Some z) (sym w.3) (all w.0 w.1);
   }
 
   pub one_more : length after ≡ length before + 1
-  one_more = ap length w.2 ∙ length-append before (at_column x.number w.0.0 ∷ [])
+  one_more = ap length w.2 ∙ length-append before (w.0.0 ∷ [])
 
 -- ---- where the machine stands
 
@@ -48,15 +47,15 @@ pub same_setting : (before after : LayoutWriterContext) (image : ℕ → ChunkDa
 same_setting before after image same =
     ap (λ z. real z (allowed_in after) (images_of image)) (told_listed before after same) ∙ ap (λ z. real (listed before) z (images_of image)) (told_allowed before after same)
 
-pub still_at_work : {B : Type 0} (to_come : B → Option (List ChunkData)) (kind : B → Ty) (allowed : List seats.Pair) (image : ℕ → ChunkData → ChunkData) (x : Course) (c d : ColumnMachine B) → told_by d.ctx ≡ told_by c.ctx
-    → (IsSet image x c → Underway to_come kind x c → Underway to_come kind x d) → AtWork to_come kind allowed image x c → AtWork to_come kind allowed image x d
-still_at_work to_come kind allowed image x c d same on w = record {
+pub still_at_work : {B : Type 0} (to_come : B → Option (List ChunkData)) (kind : B → Ty) (left : B → ℕ) (allowed : List seats.Pair) (image : ℕ → ChunkData → ChunkData) (x : Course) (c d : ColumnMachine B) → told_by d.ctx ≡ told_by c.ctx
+    → (IsSet image x c → Underway to_come kind left x c → Underway to_come kind left x d) → AtWork to_come kind left allowed image x c → AtWork to_come kind left allowed image x d
+still_at_work to_come kind left allowed image x c d same on w = record {
   set = same_setting c.ctx d.ctx image same ∙ w.set;
   underway = on w.set w.underway;
   all = w.all;
 }
 
 -- with compressors of one kind
-pub as_kind : {B : Type 0} (to_come : B → Option (List ChunkData)) (kind : B → Ty) (allowed : List seats.Pair) (image : ℕ → ℕ → ChunkData → ChunkData) (n k : ℕ) (x : Course) (c : ColumnMachine B) → n ≡ k
-    → AtWork to_come kind allowed (image n) x c → AtWork to_come kind allowed (image k) x c
-as_kind to_come kind allowed image n k x c same w = subst (λ z. AtWork to_come kind allowed (image z) x c) same w
+pub as_kind : {B : Type 0} (to_come : B → Option (List ChunkData)) (kind : B → Ty) (left : B → ℕ) (allowed : List seats.Pair) (image : ℕ → ℕ → ChunkData → ChunkData) (n k : ℕ) (x : Course) (c : ColumnMachine B) → n ≡ k
+    → AtWork to_come kind left allowed (image n) x c → AtWork to_come kind left allowed (image k) x c
+as_kind to_come kind left allowed image n k x c same w = subst (λ z. AtWork to_come kind left allowed (image z) x c) same w

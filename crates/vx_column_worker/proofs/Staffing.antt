@@ -1,5 +1,5 @@
 -- Lists that are taken apart from their ends and put together again.
-use Rattle.std.proofs.Common.{subst, None, Option, Some, drop, take, true, ◌≡◌, ◌+◌, ◌<◌, ◌∷◌, ◌++◌, ◌∙◌, ℕ, zero, suc, List, map, length, slice_index_or, refl, sym, ap, ap₂, arith, append_assoc, []}
+use Rattle.std.proofs.Common.{subst, None, Option, Some, drop, take, ◌≡◌, ◌+◌, ◌<◌, ◌∷◌, ◌++◌, ◌∙◌, ℕ, suc, List, map, length, slice_index_or, sym, ap, arith, append_assoc, []}
 use Rattle.std.specs.Prelude.{All, IfSome, IsSome, IfOk, IfErr, OnOk, reverse}
 use Rattle.std.specs.List.{AllZip}
 use Rattle.std.proofs.lemmas.List.{append-nil, reverse-append, reverse-reverse}
@@ -11,6 +11,7 @@ use Rattle.vx_layout_tree.specs.LayoutView.{layout_data}
 use Rattle.vx_write_answer.specs.Causes.{is_sink_fault}
 use Rattle.vx_column_machine.specs.Course.{plan_of}
 use Rattle.vx_column_machine.specs.Causes.{IsDone}
+use Rattle.vx_column_ids.specs.declared.part.ColumnPart.{ColumnPart}
 use Rattle.vx_column_inputs.specs.declared.inputs.Input.{Input}
 use Rattle.vx_column_worker.specs.declared.worker.Job.{Job}
 use Rattle.vx_column_worker.specs.declared.worker.Done.{Done}
@@ -69,13 +70,18 @@ pub none_moved : {A B : Type 0} (f : A → B) (front : List B) (ws : List A) →
 none_moved f [] ws e = ap (map f) (reverse-reverse ws)
 none_moved f (x ∷ xs) ws e = absurd (omega (arith, e))
 
-pub jobs_push : {C : Type 0} (k : ℕ) (is : List Input) (cs : List C) (i : Input) (c : C) (n : ℕ) → length is ≡ length cs → n ≡ k + length is
-    → jobs_from k (is ++ (i ∷ [])) (cs ++ (c ∷ [])) ≡ jobs_from k is cs ++ (record { column = n; input = i; compressor = c } ∷ [])
-jobs_push k [] [] i c n e m = let z : k ≡ n = omega (arith, m) in ap (λ (v : ℕ). record { column = v; input = i; compressor = c } ∷ []) z
-jobs_push k [] (d ∷ cs) i c n e m = absurd (omega (arith, e))
-jobs_push k (j ∷ is) [] i c n e m = absurd (omega (arith, e))
-jobs_push {C} k (j ∷ is) (d ∷ cs) i c n e m =
-    ap (λ (z : List (Job C)). record { column = k; input = j; compressor = d } ∷ z) (jobs_push (suc k) is cs i c n (omega (arith, e)) (omega (arith, m)))
+pub ap_three : {A B C D : Type 0} (f : A → B → C → D) {a a′ : A} {b b′ : B} {c c′ : C} → a ≡ a′ → b ≡ b′ → c ≡ c′ → f a b c ≡ f a′ b′ c′
+ap_three f p q r = λ i. f (p i) (q i) (r i)
+
+pub jobs_push : {C : Type 0} (k : ℕ) (is : List Input) (ps : List ColumnPart) (cs : List C) (i : Input) (p : ColumnPart) (c : C) (n : ℕ) → length is ≡ length ps → length is ≡ length cs → n ≡ k + length is
+    → jobs_from k (is ++ (i ∷ [])) (ps ++ (p ∷ [])) (cs ++ (c ∷ [])) ≡ jobs_from k is ps cs ++ (record { column = n; input = i; part = p; compressor = c } ∷ [])
+jobs_push k [] [] [] i p c n e f m = let z : k ≡ n = omega (arith, m) in ap (λ (v : ℕ). record { column = v; input = i; part = p; compressor = c } ∷ []) z
+jobs_push k [] [] (d ∷ cs) i p c n e f m = absurd (omega (arith, f))
+jobs_push k [] (q ∷ ps) cs i p c n e f m = absurd (omega (arith, e))
+jobs_push k (j ∷ is) [] cs i p c n e f m = absurd (omega (arith, e))
+jobs_push k (j ∷ is) (q ∷ ps) [] i p c n e f m = absurd (omega (arith, f))
+jobs_push {C} k (j ∷ is) (q ∷ ps) (d ∷ cs) i p c n e f m =
+    ap (λ (z : List (Job C)). record { column = k; input = j; part = q; compressor = d } ∷ z) (jobs_push (suc k) is ps cs i p c n (omega (arith, e)) (omega (arith, f)) (omega (arith, m)))
 
 -- before any is hired
 pub none_yet : {A B : Type 0} (f : A → B) (front : List B) (ws : List A) → length ws ≡ 0 → front ++ map f (reverse ws) ≡ front
@@ -91,7 +97,7 @@ all_none P (x ∷ xs) e = absurd (omega (arith, e))
 module _ {C : Type 0} (image : ℕ → ℕ → ChunkData → ChunkData) (kind faults : C → ℕ) (may : C → ℕ → Type 0) (first pairs : ℕ) where
   pub has_run : (old now : Option (Job C)) (before after : Counts) (d : Option (Done C)) → now ≡ None → IfSome old (λ j. IsSome d)
       → IfSome old (λ j. IfSome d (λ x. (chunks : List ChunkData) → list_to_come j.input.source ≡ Some chunks
-      → IfOk x.outcome (λ r. IsDone (plan_of (course_of (image (kind j.compressor)) j.column j.input chunks)) j.column (layout_data r.0) r.1.items
+      → IfOk x.outcome (λ r. IsDone (plan_of (course_of (image (kind j.compressor)) j.column j.input chunks)) (layout_data r.0) r.1.items
       × (after.writes ≡ before.writes + length (plan_of (course_of (image (kind j.compressor)) j.column j.input chunks)).pairs))))
       → IfSome old (λ j. IfSome d (λ x. (chunks : List ChunkData) → list_to_come j.input.source ≡ Some chunks
       → IfErr x.outcome (WorkerCause (SharedPast first pairs) (course_of (image (kind j.compressor)) j.column j.input chunks))))
@@ -114,3 +120,18 @@ module _ {C : Type 0} (image : ℕ → ℕ → ChunkData → ChunkData) (kind fa
     kind_is = kinds;
     pressed = pressed;
   }
+
+-- ---- the job of a worker that had one
+
+module _ {C : Type 0} (image : ℕ → ℕ → ChunkData → ChunkData) (kind : C → ℕ) where
+  -- a job was written to its end, where it was
+  abbrev pub IsWritten : ℕ → ℕ → Job C → Done C → Type 0
+  IsWritten before now j x = (chunks : List ChunkData) → list_to_come j.input.source ≡ Some chunks
+      → IfOk x.outcome (λ r. IsDone (plan_of (course_of (image (kind j.compressor)) j.column j.input chunks)) (layout_data r.0) r.1.items
+      × (now ≡ before + length (plan_of (course_of (image (kind j.compressor)) j.column j.input chunks)).pairs))
+
+  pub written_job : (before behind now : ℕ) (o : Option (Job C)) (d : Option (Done C)) (j : Job C) (x : Done C) → Some j ≡ o → d ≡ Some x → now ≡ behind → IsWritten before behind j x
+      → IfSome o (λ k. IfSome d (λ y. IsWritten before now k y))
+  written_job before behind now o d j x job done same h =
+      subst (λ a. IfSome a (λ k. IfSome d (λ y. IsWritten before now k y))) job
+      (subst (λ b. IfSome b (λ y. IsWritten before now j y)) (sym done) (subst (λ n. IsWritten before n j x) (sym same) h))

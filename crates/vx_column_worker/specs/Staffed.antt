@@ -14,6 +14,8 @@ use Rattle.vx_seats.specs.History.{Pair}
 use Rattle.vx_write_answer.specs.Causes.{is_sink_fault}
 use Rattle.vx_column_machine.specs.Course.{Course, plan_of}
 use Rattle.vx_column_machine.specs.Causes.{IsDone}
+use Rattle.vx_column_ids.specs.Outsets.{outset_of}
+use Rattle.vx_column_ids.specs.declared.part.ColumnPart.{ColumnPart}
 use Rattle.vx_column_inputs.specs.declared.inputs.Input.{Input}
 use Rattle.vx_column_worker.specs.declared.worker.Job.{Job}
 use Rattle.vx_column_worker.specs.declared.worker.Done.{Done}
@@ -28,15 +30,16 @@ IsStaffed n seats bytes compressors = (vec_len seats ≡ n) × (vec_len bytes �
 abbrev pub HasRoom : {S B C : Type 0} → ℕ → Vec S → Vec B → Vec C → Type 0
 HasRoom n seats bytes compressors = (n ≤ vec_capacity seats) × (n ≤ vec_capacity bytes) × (n ≤ vec_capacity compressors)
 
--- the jobs of columns from this one on, each with a compressor
-abbrev pub jobs_from : {C : Type 0} → ℕ → List Input → List C → List (Job C)
-jobs_from k [] cs = []
-jobs_from k (i ∷ is) [] = []
-jobs_from k (i ∷ is) (c ∷ cs) = record { column = k; input = i; compressor = c } ∷ jobs_from (suc k) is cs
+-- the jobs of columns from this one on, each with a part and a compressor
+abbrev pub jobs_from : {C : Type 0} → ℕ → List Input → List ColumnPart → List C → List (Job C)
+jobs_from k [] ps cs = []
+jobs_from k (i ∷ is) [] cs = []
+jobs_from k (i ∷ is) (p ∷ ps) [] = []
+jobs_from k (i ∷ is) (p ∷ ps) (c ∷ cs) = record { column = k; input = i; part = p; compressor = c } ∷ jobs_from (suc k) is ps cs
 
 -- ---- what may be done
 
--- what a source of a list tells: the type, which call may fail, and what is still to come
+-- what a source of a list tells: the type, which call may fail, what is still to come, and how many batches that is
 
 abbrev pub list_kind : ListSource → Ty
 list_kind s = ty s.dtype
@@ -47,10 +50,13 @@ list_may_fail s k = IsTrue (fails_at s.fails.list.items (s.fails.calls + k))
 abbrev pub list_to_come : ListSource → Option (List ChunkData)
 list_to_come s = Some (map piece (into_iter_items s.batches))
 
+abbrev pub list_left : ListSource → ℕ
+list_left s = length (into_iter_items s.batches)
+
 -- It is free, and its job fits.
 pub record MayRun {C : Type 0} (allowed : List Pair) (image : ℕ → ℕ → ChunkData → ChunkData) (kind : C → ℕ) (job : Option (Job C)) (done : Option (Done C)) : Type 0 where
   pub free : done ≡ None
-  pub fits : IfSome job (λ j. JobFits allowed (image (kind j.compressor)) j.column j.input (list_kind j.input.source) (list_may_fail j.input.source) (list_to_come j.input.source))
+  pub fits : IfSome job (λ j. JobFits allowed (image (kind j.compressor)) j.column j.input (outset_of j.part) (list_kind j.input.source) (list_may_fail j.input.source) (list_to_come j.input.source) (list_left j.input.source))
 
 -- ---- what came of a job
 
@@ -64,7 +70,7 @@ pub record Counts : Type 0 where
 -- By this worker the column of the course was written or refused; what its seat counted before and after, and the compressor that it was
 -- lent.
 pub record HasWorked {C : Type 0} (kind faults : C → ℕ) (may_fail : C → ℕ → Type 0) (first pairs : ℕ) (x : Course) (lent : C) (before after : Counts) (d : Done C) : Type 0 where
-  pub done : IfOk d.outcome (λ r. IsDone (plan_of x) x.number (layout_data r.0) r.1.items × (after.writes ≡ before.writes + length (plan_of x).pairs))
+  pub done : IfOk d.outcome (λ r. IsDone (plan_of x) (layout_data r.0) r.1.items × (after.writes ≡ before.writes + length (plan_of x).pairs))
   pub refused : IfErr d.outcome (WorkerCause (SharedPast first pairs) x)
   pub stopped : IfErr d.outcome (λ e. SeatStopped e (is_sink_fault e) before.faults after.faults before.made after.made before.seen after.seen)
   pub unstopped : OnOk d.outcome ((after.faults ≡ before.faults) × (after.made ≡ before.made) × (after.seen ≡ before.seen))

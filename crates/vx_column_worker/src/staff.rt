@@ -11,6 +11,7 @@ use std::sync::Wait;
 use std::sync::ledger::Ledger;
 use std::thread;
 use std::thread::Threads;
+use vx_column_ids::ColumnPart;
 use vx_column_inputs::Input;
 use vx_gate::Gate;
 use vx_seats::{Pairs, Seat};
@@ -147,18 +148,20 @@ fn run_one<
     worker.run(rt, alloc, gate, sink, tracker);
 }
 
-/// A worker a column, in order, each with a compressor, a seat at the sink and one at the tracker.
+/// A worker a column, in order, each with its ids, a compressor, a seat at the sink and one at the tracker.
 pub fn hire<C: CompressorPlugin, W: Ledger, F: Ledger, M: Ledger, N: Ledger, L: Ledger, P: Pairs>(
     room: Vec<Worker<C, W, F, M, N, L, P>>,
     mut inputs: Vec<Input>,
+    mut parts: Vec<ColumnPart>,
     staff: &mut Staff<C, W, F, M, N, L, P>,
 ) -> Vec<Worker<C, W, F, M, N, L, P>>
     requires room { (vec_len room ≡ 0) × (vec_len inputs ≤ vec_capacity room) }
     requires count { IsStaffed (vec_len inputs) staff.old.seats staff.old.bytes staff.old.compressors }
+    requires parts { vec_len parts ≡ vec_len inputs }
     ensures count { vec_len result ≡ vec_len inputs }
     ensures seats { map (λ w. w.seat) result.items ≡ staff.old.seats.items }
     ensures bytes { map (λ w. w.bytes) result.items ≡ staff.old.bytes.items }
-    ensures jobs { map (λ w. w.job) result.items ≡ map Some (jobs_from 0 inputs.items staff.old.compressors.items) }
+    ensures jobs { map (λ w. w.job) result.items ≡ map Some (jobs_from 0 inputs.items parts.items staff.old.compressors.items) }
     ensures free { All (λ w. w.done ≡ None) result.items }
     ensures left { IsStaffed 0 staff.new.seats staff.new.bytes staff.new.compressors × HasRoom (vec_len inputs) staff.new.seats staff.new.bytes staff.new.compressors }
     ensures outcomes { staff.new.outcomes ≡ staff.old.outcomes }
@@ -166,6 +169,7 @@ pub fn hire<C: CompressorPlugin, W: Ledger, F: Ledger, M: Ledger, N: Ledger, L: 
     let mut workers = room;
     'hired: while let Some(input) = inputs.pop() {
         let column = inputs.len() as u64;
+        let part = last_of(&mut parts);
         let compressor = last_of(&mut staff.compressors);
         let seat = last_of(&mut staff.seats);
         let bytes = last_of(&mut staff.bytes);
@@ -175,11 +179,13 @@ pub fn hire<C: CompressorPlugin, W: Ledger, F: Ledger, M: Ledger, N: Ledger, L: 
             job: Some(Job {
                 column,
                 input,
+                part,
                 compressor,
             }),
             done: None,
         });
     }
+    parts.destroy_empty();
     workers.reverse();
     workers
 }

@@ -44,11 +44,11 @@ pub(crate) fn steps<
     compressor: &mut D,
 ) -> Outcome
     requires balance { InBalance B.may_fail machine }
-    requires at_work { (x : Course) × AtWork B.to_come B.kind P.pairs (D.image (D.kind compressor.old)) x machine }
-    ensures done { IfOk result (λ r. (x : Course) → AtWork B.to_come B.kind P.pairs (D.image (D.kind compressor.old)) x machine
-        → IsDone (plan_of x) x.number (layout_data r.0) r.1.items) }
+    requires at_work { (x : Course) × AtWork B.to_come B.kind B.left P.pairs (D.image (D.kind compressor.old)) x machine }
+    ensures done { IfOk result (λ r. (x : Course) → AtWork B.to_come B.kind B.left P.pairs (D.image (D.kind compressor.old)) x machine
+        → IsDone (plan_of x) (layout_data r.0) r.1.items) }
     ensures writes { IfOk result (λ r. seat.new.writes.amount + length machine.paths.items ≡ seat.old.writes.amount + length r.1.items) }
-    ensures refused { IfErr result (λ e. (x : Course) → AtWork B.to_come B.kind P.pairs (D.image (D.kind compressor.old)) x machine
+    ensures refused { IfErr result (λ e. (x : Course) → AtWork B.to_come B.kind B.left P.pairs (D.image (D.kind compressor.old)) x machine
         → WorkerCause (SharedPast P.first (length P.pairs)) x e) }
     ensures seat { SeatTold result seat.old.faults.amount seat.new.faults.amount seat.old.made.amount seat.new.made.amount seat.old.seen.amount seat.new.seen.amount }
     ensures column { seat.new.column ≡ seat.old.column }
@@ -72,7 +72,7 @@ pub(crate) fn steps<
     unreachable!()
 }
 
-/// One step, before which the front is raised to where the struct's node would write next. A segment goes on to the shared
+/// One step, before which the front is raised to where it writes next, at the earliest. A segment goes on to the shared
 /// sink.
 fn turn<
     B: BatchSource + Drop,
@@ -94,12 +94,12 @@ fn turn<
 ) -> Result<(), WriteError>
     requires balance { InBalance B.may_fail machine.old }
     requires going { is_finished (machine_of machine.old.machine) ≡ false }
-    requires at_work { (x : Course) × AtWork B.to_come B.kind P.pairs (D.image (D.kind compressor.old)) x machine.old }
+    requires at_work { (x : Course) × AtWork B.to_come B.kind B.left P.pairs (D.image (D.kind compressor.old)) x machine.old }
     ensures balance { InBalance B.may_fail machine.new }
-    ensures at_work { OnOk result ((x : Course) → AtWork B.to_come B.kind P.pairs (D.image (D.kind compressor.old)) x machine.old
-        → AtWork B.to_come B.kind P.pairs (D.image (D.kind compressor.old)) x machine.new) }
+    ensures at_work { OnOk result ((x : Course) → AtWork B.to_come B.kind B.left P.pairs (D.image (D.kind compressor.old)) x machine.old
+        → AtWork B.to_come B.kind B.left P.pairs (D.image (D.kind compressor.old)) x machine.new) }
     ensures writes { OnOk result (seat.new.writes.amount + length machine.old.paths.items ≡ seat.old.writes.amount + length machine.new.paths.items) }
-    ensures refused { IfErr result (λ e. (x : Course) → AtWork B.to_come B.kind P.pairs (D.image (D.kind compressor.old)) x machine.old
+    ensures refused { IfErr result (λ e. (x : Course) → AtWork B.to_come B.kind B.left P.pairs (D.image (D.kind compressor.old)) x machine.old
         → WorkerCause (SharedPast P.first (length P.pairs)) x e) }
     ensures seat { SeatTold result seat.old.faults.amount seat.new.faults.amount seat.old.made.amount seat.new.made.amount seat.old.seen.amount seat.new.seen.amount }
     ensures column { seat.new.column ≡ seat.old.column }
@@ -114,7 +114,7 @@ fn turn<
     }
 }
 
-/// Raises the column's front to where the struct's node would write next, unless it was raised there last.
+/// Raises the column's front to where it writes next, at the earliest, unless it was raised there last.
 fn raise<
     B: BatchSource + Drop,
     S: SegmentSink,

@@ -1,9 +1,10 @@
-//! A column's worker: a machine of its own, whose segments are taken on to the shared sink.
+//! A column's worker: a machine of its own at the column's ids, whose segments are taken on to the shared sink.
 
 ghost use Rattle.std.specs.Prelude.{◌≡◌, ◌+◌, List, None, Some, length, IfOk, IfErr, IfSome, OnOk, IsSome};
 ghost use Rattle.vx_model.specs.ChunkData.{ChunkData};
 ghost use Rattle.vx_layout_tree.specs.LayoutView.{layout_data};
 ghost use Rattle.vx_write_answer.specs.Causes.{is_sink_fault};
+ghost use Rattle.vx_column_ids.specs.Outsets.{outset_of};
 ghost use Rattle.vx_column_machine.specs.Course.{plan_of};
 ghost use Rattle.vx_column_machine.specs.Causes.{IsDone};
 ghost use Rattle.vx_column_worker.specs.Jobs.{JobFits, course_of};
@@ -15,6 +16,7 @@ use std::alloc::Global;
 use std::mem;
 use std::sync::Wait;
 use std::sync::ledger::Ledger;
+use vx_column_ids::ColumnPart;
 use vx_column_inputs::Input;
 use vx_column_machine::ColumnMachine;
 use vx_fault::Fallible;
@@ -29,10 +31,11 @@ use vx_write_answer::WriteError;
 /// What came of a column: its layout, whose segments are places in the list of their paths; or why it was refused.
 pub type Outcome = Result<(Layout, Vec<Path>), WriteError>;
 
-/// What a worker writes, and by which compressor.
+/// What a worker writes, at which ids, and by which compressor. It must be spent, as its part is.
 pub struct Job<C> {
     pub column: u64,
     pub input: Input,
+    pub part: ColumnPart,
     pub compressor: C,
 }
 
@@ -77,10 +80,11 @@ impl<C: CompressorPlugin, W: Ledger, F: Ledger, M: Ledger, N: Ledger, L: Ledger,
         tracker: &SharedBytesTracker<L>,
     )
         requires free { self.old.done ≡ None }
-        requires fits { IfSome self.old.job (λ j. JobFits P.pairs (C.image (C.kind j.compressor)) j.column j.input (⟦<ListSource as BatchSource>⟧.kind j.input.source)
-            (⟦<ListSource as Fallible>⟧.may_fail j.input.source) (⟦<ListSource as BatchSource>⟧.to_come j.input.source)) }
+        requires fits { IfSome self.old.job (λ j. JobFits P.pairs (C.image (C.kind j.compressor)) j.column j.input (outset_of j.part) (⟦<ListSource as BatchSource>⟧.kind j.input.source)
+            (⟦<ListSource as Fallible>⟧.may_fail j.input.source) (⟦<ListSource as BatchSource>⟧.to_come j.input.source)
+            (⟦<ListSource as BatchSource>⟧.left j.input.source)) }
         ensures done { IfSome self.old.job (λ j. IfSome self.new.done (λ d. (chunks : List ChunkData) → ⟦<ListSource as BatchSource>⟧.to_come j.input.source ≡ Some chunks
-            → IfOk d.outcome (λ r. IsDone (plan_of (course_of (C.image (C.kind j.compressor)) j.column j.input chunks)) j.column (layout_data r.0) r.1.items
+            → IfOk d.outcome (λ r. IsDone (plan_of (course_of (C.image (C.kind j.compressor)) j.column j.input chunks)) (layout_data r.0) r.1.items
             × (self.new.seat.writes.amount ≡ self.old.seat.writes.amount + length (plan_of (course_of (C.image (C.kind j.compressor)) j.column j.input chunks)).pairs)))) }
         ensures refused { IfSome self.old.job (λ j. IfSome self.new.done (λ d. (chunks : List ChunkData) → ⟦<ListSource as BatchSource>⟧.to_come j.input.source ≡ Some chunks
             → IfErr d.outcome (WorkerCause (SharedPast P.first (length P.pairs)) (course_of (C.image (C.kind j.compressor)) j.column j.input chunks)))) }
@@ -117,10 +121,11 @@ impl<C: CompressorPlugin, W: Ledger, F: Ledger, M: Ledger, N: Ledger, L: Ledger,
         tracker: &SharedBytesTracker<L>,
         job: Job<C>,
     ) -> Done<C>
-        requires { JobFits P.pairs (C.image (C.kind job.compressor)) job.column job.input (⟦<ListSource as BatchSource>⟧.kind job.input.source)
-            (⟦<ListSource as Fallible>⟧.may_fail job.input.source) (⟦<ListSource as BatchSource>⟧.to_come job.input.source) }
+        requires { JobFits P.pairs (C.image (C.kind job.compressor)) job.column job.input (outset_of job.part) (⟦<ListSource as BatchSource>⟧.kind job.input.source)
+            (⟦<ListSource as Fallible>⟧.may_fail job.input.source) (⟦<ListSource as BatchSource>⟧.to_come job.input.source)
+            (⟦<ListSource as BatchSource>⟧.left job.input.source) }
         ensures done { (chunks : List ChunkData) → ⟦<ListSource as BatchSource>⟧.to_come job.input.source ≡ Some chunks
-            → IfOk result.outcome (λ r. IsDone (plan_of (course_of (C.image (C.kind job.compressor)) job.column job.input chunks)) job.column (layout_data r.0) r.1.items
+            → IfOk result.outcome (λ r. IsDone (plan_of (course_of (C.image (C.kind job.compressor)) job.column job.input chunks)) (layout_data r.0) r.1.items
             × (self.new.seat.writes.amount ≡ self.old.seat.writes.amount + length (plan_of (course_of (C.image (C.kind job.compressor)) job.column job.input chunks)).pairs)) }
         ensures refused { (chunks : List ChunkData) → ⟦<ListSource as BatchSource>⟧.to_come job.input.source ≡ Some chunks
             → IfErr result.outcome (WorkerCause (SharedPast P.first (length P.pairs)) (course_of (C.image (C.kind job.compressor)) job.column job.input chunks)) }
@@ -135,6 +140,7 @@ impl<C: CompressorPlugin, W: Ledger, F: Ledger, M: Ledger, N: Ledger, L: Ledger,
         let Job {
             column,
             input,
+            part,
             compressor,
         } = job;
         let mut gated = Gated {
@@ -142,7 +148,7 @@ impl<C: CompressorPlugin, W: Ledger, F: Ledger, M: Ledger, N: Ledger, L: Ledger,
             gate,
             column,
         };
-        let outcome = self.run_machine(rt, alloc, sink, tracker, column, input, &mut gated);
+        let outcome = self.run_machine(rt, alloc, sink, tracker, column, input, part, &mut gated);
         let Gated {
             compressor,
             gate: _,
@@ -154,7 +160,7 @@ impl<C: CompressorPlugin, W: Ledger, F: Ledger, M: Ledger, N: Ledger, L: Ledger,
         }
     }
 
-    /// Begins the column's own machine, and steps it to its end.
+    /// Begins the column's own machine at the part's ids, and steps it to its end.
     fn run_machine<D: CompressorPlugin, S: SegmentSink, R: Wait>(
         &mut self,
         rt: &R,
@@ -163,12 +169,14 @@ impl<C: CompressorPlugin, W: Ledger, F: Ledger, M: Ledger, N: Ledger, L: Ledger,
         tracker: &SharedBytesTracker<L>,
         column: u64,
         input: Input,
+        part: ColumnPart,
         compressor: &mut D,
     ) -> Outcome
-        requires { JobFits P.pairs (D.image (D.kind compressor.old)) column input (⟦<ListSource as BatchSource>⟧.kind input.source)
-            (⟦<ListSource as Fallible>⟧.may_fail input.source) (⟦<ListSource as BatchSource>⟧.to_come input.source) }
+        requires { JobFits P.pairs (D.image (D.kind compressor.old)) column input (outset_of part) (⟦<ListSource as BatchSource>⟧.kind input.source)
+            (⟦<ListSource as Fallible>⟧.may_fail input.source) (⟦<ListSource as BatchSource>⟧.to_come input.source)
+            (⟦<ListSource as BatchSource>⟧.left input.source) }
         ensures done { (chunks : List ChunkData) → ⟦<ListSource as BatchSource>⟧.to_come input.source ≡ Some chunks
-            → IfOk result (λ r. IsDone (plan_of (course_of (D.image (D.kind compressor.old)) column input chunks)) column (layout_data r.0) r.1.items
+            → IfOk result (λ r. IsDone (plan_of (course_of (D.image (D.kind compressor.old)) column input chunks)) (layout_data r.0) r.1.items
             × (self.new.seat.writes.amount ≡ self.old.seat.writes.amount + length (plan_of (course_of (D.image (D.kind compressor.old)) column input chunks)).pairs)) }
         ensures refused { (chunks : List ChunkData) → ⟦<ListSource as BatchSource>⟧.to_come input.source ≡ Some chunks
             → IfErr result (WorkerCause (SharedPast P.first (length P.pairs)) (course_of (D.image (D.kind compressor.old)) column input chunks)) }
@@ -185,7 +193,14 @@ impl<C: CompressorPlugin, W: Ledger, F: Ledger, M: Ledger, N: Ledger, L: Ledger,
         let Input { way, source, ctx } = input;
         // No encoding is listed twice.
         ctx.array_ctx().ids();
-        let machine = ColumnMachine::begin(alloc, way.strategy.strategy(), ctx, source, column)?;
+        let machine = ColumnMachine::begin(
+            alloc,
+            way.strategy.strategy(),
+            ctx,
+            source,
+            column,
+            part,
+        )?;
         steps(
             rt,
             sink,

@@ -1,5 +1,5 @@
 -- What is shown of a job that was written by columns, and of one that was refused.
-use Rattle.std.proofs.Common.{◌≡◌, ℕ, suc, ◌+◌, ◌<◌, ◌≤◌, ◌^◌, max, Bool, true, false, IsTrue, List, [], ◌∷◌, ◌++◌, length, All, Option, Some, None, refl, sym, ap, subst, if◌then◌else◌, ◌∙◌, length-append, arith}
+use Rattle.std.proofs.Common.{◌≡◌, ℕ, suc, ◌+◌, ◌<◌, ◌≤◌, ◌^◌, max, Bool, true, false, IsTrue, List, [], ◌∷◌, ◌++◌, length, All, Option, Some, None, refl, sym, ap, subst, ◌⊎◌, inl, inr, if◌then◌else◌, ◌∙◌, length-append, arith}
 use Rattle.std.specs.Prelude.{option_map}
 use Rattle.vx_path.proofs.Sort.{length-sort_by}
 use Rattle.vx_model.specs.Ty.{Ty}
@@ -23,6 +23,7 @@ use Rattle.vx_write_answer.specs.declared.error.WriteError.{WriteError}
 use Rattle.vx_write_answer.specs.declared.error.WriteError.TheVariants as errors
 use Rattle.vx_column_inputs.specs.Reading.{SourceTold}
 use Rattle.vx_write_columns.specs.Beside.{PassesBeside}
+use Rattle.vx_write_columns.specs.Ends.{IsFirstRefusal, EndsTell}
 use Rattle.vx_write_columns.specs.Stopped.{OfReading, ReadWhole, ColumnsHalted, SinkFailed, CompressorFailed, KeptOrFailed, AllKeptOrFailed, AllCalm}
 use Rattle.vx_job.specs.JobParts.{FailingCalls}
 use Rattle.vx_job.specs.JobText.{JobData}
@@ -37,9 +38,10 @@ use Rattle.vx_run.proofs.JobSteps.{told_rest, taken_within, fitting}
 use Rattle.vx_run.proofs.MemoryWrites.{told_all, is_calm, never_listed}
 use Rattle.vx_run.proofs.ShapeSteps.{Shaped, written_shaped}
 use Rattle.vx_run.proofs.TableSteps.{tables_there}
-use Rattle.vx_run_columns.specs.BesideAnswers.{HasColumns, FailsReading, IsWrittenBeside, IsLetBeside, HaltsBeside, JobAnswerBeside}
+use Rattle.vx_run_columns.specs.BesideAnswers.{HasColumns, FailsReading, IsWrittenBeside, IsLetBeside, IsFirstBeside, HaltsBeside, JobAnswerBeside}
 use Rattle.vx_run_columns.specs.Compressors.{FailsBy}
 use Rattle.vx_run_columns.proofs.Failing.{some_listed, never_by, calm_kept, all_calm, failed_listed}
+use Rattle.vx_run_columns.proofs.Ending.{ended_let}
 
 -- ---- what a write of a job starts from
 
@@ -146,9 +148,18 @@ source_by more fewer h = record {
   asked = record { counted = h.asked.counted; allowed = λ is. more _ (h.asked.allowed is); passed = λ k less must. h.asked.passed k less (fewer k must) };
 }
 
-halted_by : {s : Setting} {w : StrategyData} {t : Ty} {m : Bool} {passes : List ChunkData → ℕ → Type 0} {first now : ℕ} {faults faults_now : ℕ} {may must may_then must_then : ℕ → Type 0} {a c : Option (List ChunkData)} {old new : Option (List (List ℕ))} {e : WriteError}
-    → ((k : ℕ) → may k → may_then k) → ((k : ℕ) → must_then k → must k) → ColumnsHalted s w t m passes first now faults faults_now may must a c old new e → ColumnsHalted s w t m passes first now faults faults_now may_then must_then a c old new e
-halted_by more fewer h = record {
+-- behind the source's end
+whose_by : {A B C D : Type 0} → (C → D) → A ⊎ (B ⊎ C) → A ⊎ (B ⊎ D)
+whose_by f (inl a) = inl a
+whose_by f (inr (inl b)) = inr (inl b)
+whose_by f (inr (inr c)) = inr (inr (f c))
+
+halted_by : {s : Setting} {w : StrategyData} {t : Ty} {m : Bool} {passes : List ChunkData → ℕ → Type 0} {columns columns_then : List ChunkData → WriteError → Type 0} {first now : ℕ} {faults faults_now : ℕ} {may must may_then must_then : ℕ → Type 0}
+    {a c : Option (List ChunkData)} {old new : Option (List (List ℕ))} {e : WriteError}
+    → ColumnsHalted s w t m passes columns first now faults faults_now may must a c old new e
+    → ((k : ℕ) → may k → may_then k) → ((k : ℕ) → must_then k → must k) → ((taken : List ChunkData) → columns taken e → columns_then taken e)
+    → ColumnsHalted s w t m passes columns_then first now faults faults_now may_then must_then a c old new e
+halted_by h more fewer ended = record {
   taken = h.taken;
   heard = h.heard;
   told = source_by more fewer h.told;
@@ -160,6 +171,7 @@ halted_by more fewer h = record {
   numbers = h.numbers;
   last = h.last;
   cause = h.cause;
+  whose = λ heard. whose_by (ended h.taken) (h.whose heard);
 }
 
 -- a source fails behind as many answers as batches were taken
@@ -178,8 +190,8 @@ is_let errors.CompressFault j taken memory of_source of_sink of_press = of_press
 is_let errors.OutOfMemory j taken memory of_source of_sink of_press = absurd (let f : true ≡ false = memory in cc)
 is_let e j taken memory of_source of_sink of_press = tt
 
-faults_let : (j : JobData) (e : WriteError) {s : Setting} {w : StrategyData} {t : Ty} {m : Bool} {passes : List ChunkData → ℕ → Type 0} {first now faults : ℕ} {later : List ChunkData} {old new : Option (List (List ℕ))}
-    → (h : ColumnsHalted s w t m passes first now 0 faults (FailsReading j) (FailsReading j) (Some j.batches) (Some later) old new e) → is_memory e ≡ false
+faults_let : (j : JobData) (e : WriteError) {s : Setting} {w : StrategyData} {t : Ty} {m : Bool} {passes : List ChunkData → ℕ → Type 0} {columns : List ChunkData → WriteError → Type 0} {first now faults : ℕ} {later : List ChunkData} {old new : Option (List (List ℕ))}
+    → (h : ColumnsHalted s w t m passes columns first now 0 faults (FailsReading j) (FailsReading j) (Some j.batches) (Some later) old new e) → is_memory e ≡ false
     → (e ≡ errors.SinkFault → (k : ℕ) × IsTrue (fails_at j.options.faults.sink k)) → (e ≡ errors.CompressFault → (k : ℕ) × IsTrue (fails_at j.options.faults.compress k)) → IsLetBeside j (length h.taken) e
 faults_let j e {later = later} h memory of_sink of_press =
     is_let e j (length h.taken) memory
@@ -190,7 +202,7 @@ pub record RefusedWrite {C : Type 0} (j : JobData) (e : WriteError) (s : Setting
     (may_source must_source may_sink : ℕ → Type 0) (source_before source_now sink_before sink_now : ℕ) (faults : C → ℕ) (may : C → ℕ → Type 0) (compressors back : List C) : Type 0 where
   pub start : Start j s t m first a old
   pub failing : Failing j may_source must_source may_sink source_before sink_before faults may compressors
-  pub halted : ColumnsHalted s j.strategy t m (PassesBeside s j.strategy t m) first now source_before source_now may_source must_source a c old new e
+  pub halted : ColumnsHalted s j.strategy t m (PassesBeside s j.strategy t m) (IsFirstRefusal s j.strategy t m first (EndsTell sink_before sink_now may_sink faults may compressors back)) first now source_before source_now may_source must_source a c old new e
   pub sink : e ≡ errors.SinkFault → SinkFailed sink_before sink_now may_sink
   pub sink_told : KeptOrFailed sink_before sink_now may_sink
   pub compressor : e ≡ errors.CompressFault → CompressorFailed faults may compressors back
@@ -220,7 +232,8 @@ module _ {C : Type 0} (j : JobData) (e : WriteError) {s : Setting} {t : Ty} {m :
       let start = w.start in
       let rest = told_rest w.halted.taken a c j.batches w.halted.told.came start.batches in
       let told_here = rw (start.setting, start.schema, start.marked, start.numbers, reached told, w.failing.source_none, start.batches, rest.1, start.none, told) at w.halted in
-      let halted = halted_by w.failing.may_of_source w.failing.must_of_source told_here in
+      let halted = halted_by {columns_then = IsFirstBeside j} told_here w.failing.may_of_source w.failing.must_of_source
+      (λ taken first. ended_let j faults may compressors back w.failing.may_of_sink w.failing.compressors_by taken e first) in
       record {
         later = rest.0;
         faults = source_now;

@@ -1,3 +1,4 @@
+mod Ending
 mod Failing
 mod JobsBeside
 mod Printing

@@ -1,5 +1,5 @@
 -- Which text belongs to which status of the command `columns`.
-use Rattle.std.specs.Prelude.{◌≡◌, ℕ, ◌+◌, ◌<◌, ◌≤◌, false, List, [], length, Some, IsTrue, Result, Ok, Err}
+use Rattle.std.specs.Prelude.{◌≡◌, ℕ, ◌+◌, ◌<◌, ◌≤◌, false, List, [], ◌∷◌, length, Some, IsTrue, Result, Ok, Err}
 use Rattle.vx_model.specs.ChunkData.{ChunkData}
 use Rattle.vx_model.specs.ValueData.{ValueData}
 use Rattle.vx_layout_spec.specs.LayoutTree.{LayoutData}
@@ -18,6 +18,7 @@ use Rattle.vx_write_columns.specs.Written.{Wrote}
 use Rattle.vx_write_answer.specs.declared.error.WriteError.{WriteError}
 use Rattle.vx_write_answer.specs.declared.error.WriteError.TheVariants as errors
 use Rattle.vx_write_columns.specs.Beside.{PassesBeside}
+use Rattle.vx_write_columns.specs.Ends.{End, IsFirstRefusal}
 use Rattle.vx_write_columns.specs.Stopped.{ColumnsHalted}
 use Rattle.vx_run.specs.Answers.{job_setting, job_plan, IsValid, SetsNoFaults, IsText, bad_job}
 use Rattle.vx_run.specs.RefusalNames.{refusal_name, is_memory}
@@ -64,14 +65,28 @@ IsLetBeside j taken errors.CompressFault = (k : ℕ) × IsTrue (fails_at j.optio
 IsLetBeside j taken errors.OutOfMemory = ⊥
 IsLetBeside j taken e = Unit {0}
 
+-- so is a fault that ended a column
+abbrev pub IsLetEnd : JobData → End → Type 0
+IsLetEnd j (Some errors.SinkFault) = (k : ℕ) × IsTrue (fails_at j.options.faults.sink k)
+IsLetEnd j (Some errors.CompressFault) = (k : ℕ) × IsTrue (fails_at j.options.faults.compress k)
+IsLetEnd j o = Unit {0}
+
+abbrev pub AllLetEnd : JobData → List End → Type 0
+AllLetEnd j [] = Unit {0}
+AllLetEnd j (o ∷ ends) = IsLetEnd j o × AllLetEnd j ends
+
+-- the refusal is the first of the columns of these batches
+abbrev pub IsFirstBeside : JobData → List ChunkData → WriteError → Type 0
+IsFirstBeside j taken e = IsFirstRefusal (job_setting j) j.strategy j.schema j.options.marked j.options.next (AllLetEnd j) taken e
+
 -- A write by columns of the job was refused by this error, which has its cause in the plan of the batches taken; these segments of it
--- stand.
+-- stand. A column's refusal is the first, in order, that isn't a stop by another's.
 pub record IsRefusedBeside (j : JobData) (e : WriteError) (stand : List (List ℕ)) : Type 0 where
   -- the batches that weren't taken
   pub later : List ChunkData
   -- how often the source failed
   pub faults : ℕ
-  pub halted : ColumnsHalted (job_setting j) j.strategy j.schema j.options.marked (PassesBeside (job_setting j) j.strategy j.schema j.options.marked)
+  pub halted : ColumnsHalted (job_setting j) j.strategy j.schema j.options.marked (PassesBeside (job_setting j) j.strategy j.schema j.options.marked) (IsFirstBeside j)
       j.options.next (j.options.next + length stand) 0 faults (FailsReading j) (FailsReading j) (Some j.batches) (Some later) (Some []) (Some stand) e
   pub let_fail : IsLetBeside j (length halted.taken) e
   pub not_valid : SetsNoFaults j → ¬ (IsValid j)

@@ -5,9 +5,6 @@ use Rattle.vx_model.specs.ChunkData.{ChunkData}
 use Rattle.vx_path.specs.Lists.{In}
 use Rattle.vx_path.specs.Path.{root_eof}
 use Rattle.vx_path.proofs.Lists.{in_left, in_right}
-use Rattle.vx_rules.specs.Columns.{Split, struct_splits, column, other_columns}
-use Rattle.vx_rules.specs.Flushes.{chunk_pieces}
-use Rattle.vx_react.specs.Statements.{columns_after}
 use Rattle.vx_strategy_spec.specs.StrategyData.{StrategyData, StrategyList, structured}
 use Rattle.vx_strategy_spec.specs.Walk.{duplicate, field_nodes, walk_named}
 use Rattle.vx_strategy_spec.specs.Dispatch.{dispatch}
@@ -18,8 +15,6 @@ use Rattle.vx_plan.specs.SourcePlan.{plan_nodes, plan, batch_items, source_plan}
 use Rattle.vx_plan.specs.Valid.{IsPast, Has}
 use Rattle.vx_column_plan.specs.Columns.{Column, columns_by, batch_plans, IsBeside}
 use Rattle.vx_column_plan.proofs.ColumnLaws.{struct_is_columns}
-use Rattle.vx_moved_plans.specs.Moved.{Moving, moved_place, moved_faults, at_column}
-use Rattle.vx_column_moves.specs.Moves.{column_chunks}
 use Rattle.vx_column_ways.specs.Ways.{columns_in}
 use Rattle.vx_column_worker.specs.Course.{Course, plan_of}
 use Rattle.vx_column_worker.specs.Causes.{Passes}
@@ -31,7 +26,7 @@ use Rattle.vx_write_columns.specs.Beside.{PassesBeside}
 use Rattle.vx_write_columns.specs.Courses.{column_courses}
 use Rattle.vx_write_columns.specs.Numbers.{IsOwn}
 use Rattle.vx_write_columns.specs.Stopped.{IsNumberPast, HasColumnsCause, OfReading}
-use Rattle.vx_write_columns.proofs.Beside.{IsAt, at_place, in_get, length_moved}
+use Rattle.vx_write_columns.proofs.Beside.{course_at, place_in}
 use Rattle.vx_write_columns.proofs.Dispatched.{stands_for}
 
 same_some : {A : Type 0} (x y : A) → Some x ≡ Some y → x ≡ y
@@ -68,63 +63,28 @@ reserved_within q [] h = absurd h
 reserved_within q (r ∷ qs) (inl e) = let same : q.reserved ≡ r.reserved = ap (λ (z : Plan). z.reserved) e in omega arith
 reserved_within q (r ∷ qs) (inr j) = let later : q.reserved ≤ all_reserved qs = reserved_within q qs j in omega arith
 
--- a fault that is moved says the same
-in_moved_faults : (f : Moving) (x : Fault) (xs : List Fault) → In x xs → In (fault x.what (moved_place f x.place)) (moved_faults f xs)
-in_moved_faults f x [] h = absurd h
-in_moved_faults f x (y ∷ xs) (inl e) = inl (ap (λ (z : Fault). fault z.what (moved_place f z.place)) e)
-in_moved_faults f x (y ∷ xs) (inr i) = inr (in_moved_faults f x xs i)
-
-has_moved : (f : Moving) (a : What) (xs : List Fault) → Has a xs → Has a (moved_faults f xs)
-has_moved f a xs (x, i, e) = (fault x.what (moved_place f x.place), in_moved_faults f x xs i, e)
-
--- ---- a column has as many chunks as there are batches
-
-count_column : (k : ℕ) (xs : List Split) → length (chunk_pieces (column k xs)) ≡ length xs
-count_column k [] = refl
-count_column k (x ∷ xs) = ap suc (count_column k xs)
-
-count_others : (xs : List Split) → length (other_columns xs) ≡ length xs
-count_others [] = refl
-count_others (x ∷ xs) = ap suc (count_others xs)
-
-count_after : (k : ℕ) (xs : List Split) → length (columns_after k xs) ≡ length xs
-count_after zero xs = refl
-count_after (suc k) xs = count_after k (other_columns xs) ∙ count_others xs
-
-count_splits : (fs : Tys) (n : Bool) (i : ℕ) (bs : List ChunkData) → length (struct_splits fs n (batch_items i bs)) ≡ length bs
-count_splits fs n i [] = refl
-count_splits fs n i (b ∷ bs) = ap suc (count_splits fs n (suc i) bs)
-
-pub chunks_count : (k : ℕ) (fs : Tys) (n : Bool) (bs : List ChunkData) → length (column_chunks k fs n bs) ≡ length bs
-chunks_count k fs n bs =
-    count_column k (columns_after k (struct_splits fs n (batch_items 0 bs))) ∙ count_after k (struct_splits fs n (batch_items 0 bs))
-    ∙ count_splits fs n 0 bs
-
 -- ---- the course at a place
 
 module _ (s : Setting) (fs : Tys) (n : Bool) (bs : List ChunkData) where
-  abbrev pub course_at : ℕ → Column → Course
-  course_at k c = record { setting = s; column = c; number = k; chunks = column_chunks k fs n bs }
-
   pub course_is : (j : ℕ) (cs : List Column) (k : ℕ) (x : Course) → slice_get (column_courses s fs n bs j cs) k ≡ Some x
-      → (c : Column) × (slice_get cs k ≡ Some c) × (x ≡ course_at (j + k) c)
+      → (c : Column) × (slice_get cs k ≡ Some c) × (x ≡ course_at s fs n bs (j + k) c)
   course_is j [] k x e = absurd (none_some x e)
   course_is j (c ∷ cs) zero x e =
       let z : j ≡ j + 0 = omega arith in
-      (c, refl, sym (same_some (course_at j c) x e) ∙ ap (λ i. course_at i c) z)
+      (c, refl, sym (same_some (course_at s fs n bs j c) x e) ∙ ap (λ i. course_at s fs n bs i c) z)
   course_is j (c ∷ cs) (suc k) x e = next (course_is (suc j) cs k x e)
     where
-      next : (d : Column) × (slice_get cs k ≡ Some d) × (x ≡ course_at (suc j + k) d) → (d : Column) × (slice_get cs k ≡ Some d) × (x ≡ course_at (j + suc k) d)
-      next (d, i, a) = let z : suc j + k ≡ j + suc k = omega arith in (d, i, a ∙ ap (λ h. course_at h d) z)
+      next : (d : Column) × (slice_get cs k ≡ Some d) × (x ≡ course_at s fs n bs (suc j + k) d) → (d : Column) × (slice_get cs k ≡ Some d) × (x ≡ course_at s fs n bs (j + suc k) d)
+      next (d, i, a) = let z : suc j + k ≡ j + suc k = omega arith in (d, i, a ∙ ap (λ h. course_at s fs n bs h d) z)
 
-  pub course_there : (j : ℕ) (cs : List Column) (k : ℕ) (c : Column) → slice_get cs k ≡ Some c → slice_get (column_courses s fs n bs j cs) k ≡ Some (course_at (j + k) c)
+  pub course_there : (j : ℕ) (cs : List Column) (k : ℕ) (c : Column) → slice_get cs k ≡ Some c → slice_get (column_courses s fs n bs j cs) k ≡ Some (course_at s fs n bs (j + k) c)
   course_there j [] k c e = absurd (none_some c e)
   course_there j (b ∷ cs) zero c e =
       let z : j ≡ j + 0 = omega arith in
-      ap₂ (λ (i : ℕ) (d : Column). Some (course_at i d)) z (same_some b c e)
+      ap₂ (λ (i : ℕ) (d : Column). Some (course_at s fs n bs i d)) z (same_some b c e)
   course_there j (b ∷ cs) (suc k) c e =
       let z : suc j + k ≡ j + suc k = omega arith in
-      course_there (suc j) cs k c e ∙ ap (λ i. Some (course_at i c)) z
+      course_there (suc j) cs k c e ∙ ap (λ i. Some (course_at s fs n bs i c)) z
 
 -- ---- one column against the struct's plan
 
@@ -145,41 +105,26 @@ module _ (s : Setting) (v d : StrategyData) (ws : StrategyList) (m : Bool) (fs :
   sides = struct_is_columns s v d ws m fs n bs true distinct
 
   module _ (k : ℕ) (x : Course) (e : slice_get xs k ≡ Some x) where
-    place : (q : Plan) × (slice_get qs k ≡ Some q) × IsAt x q
-    place = at_place s v d ws m fs n bs distinct k x e
-
-    within : In place.0 qs
-    within = in_get qs k place.0 place.1
+    within : In (plan_of x) qs
+    within = place_in s v d ws m fs n bs distinct k x e
 
     fewer : length (plan_of x).pairs ≤ length p.pairs
     fewer =
-        let a : length place.0.pairs ≤ length (all_pairs qs) = pairs_within place.0 qs within in
+        let a : length (plan_of x).pairs ≤ length (all_pairs qs) = pairs_within (plan_of x) qs within in
         let b : length p.pairs ≡ length (all_pairs qs) = ap length sides.pairs in
-        let c : length place.0.pairs ≡ length (plan_of x).pairs = ap length place.2.pairs ∙ length_moved (at_column x.number) (plan_of x).pairs in
         omega arith
 
     pub reserves_within : (plan_of x).reserved ≤ p.reserved
     reserves_within =
-        let a : place.0.reserved ≤ all_reserved qs = reserved_within place.0 qs within in
+        let a : (plan_of x).reserved ≤ all_reserved qs = reserved_within (plan_of x) qs within in
         let b : p.reserved ≡ all_reserved qs = sides.reserved in
-        let c : place.0.reserved ≡ (plan_of x).reserved = place.2.reserved in
         omega arith
-
-    as_many : 0 + length x.chunks ≡ length bs
-    as_many = by (course_is s fs n bs 0 ks k x e)
-      where
-        by : (c : Column) × (slice_get ks k ≡ Some c) × (x ≡ course_at s fs n bs (0 + k) c) → 0 + length x.chunks ≡ length bs
-        by (c, i, a) =
-            let l : length x.chunks ≡ length bs = ap (λ (y : Course). length y.chunks) a ∙ chunks_count (0 + k) fs n bs in
-            omega arith
 
     -- what it counts the struct's plan counts
     counted : (i : ℕ) → In i (plan_of x).numbers → In i p.numbers
-    counted i h = subst (λ z. In i z) (sym sides.numbers) (on (subst (λ z. In i z) place.2.numbers h))
-      where
-        on : In i ((0 + length x.chunks) ∷ place.0.numbers) → In i (length bs ∷ ((row_totals (batch_items 0 bs) ++ (length ks ∷ (1 + length ks) ∷ [])) ++ all_numbers qs))
-        on (inl z) = inl (z ∙ as_many)
-        on (inr j) = inr (in_right i (row_totals (batch_items 0 bs) ++ (length ks ∷ (1 + length ks) ∷ [])) (all_numbers qs) (in_all_numbers i place.0 qs within j))
+    counted i h =
+        subst (λ z. In i z) (sym sides.numbers)
+        (inr (in_right i (row_totals (batch_items 0 bs) ++ (length ks ∷ (1 + length ks) ∷ [])) (all_numbers qs) (in_all_numbers i (plan_of x) qs within h)))
 
     past_there : (i : ℕ) → IsPast i (plan_of x).numbers → IsPast i p.numbers
     past_there i (big, inl h) = (big, inl (counted i h))
@@ -187,10 +132,7 @@ module _ (s : Setting) (v d : StrategyData) (ws : StrategyList) (m : Bool) (fs :
 
     -- its faults are the struct's
     has_there : (a : What) → Has a (plan_of x).faults → Has a p.faults
-    has_there a h = on (has_moved (at_column x.number) a (plan_of x).faults h)
-      where
-        on : Has a (moved_faults (at_column x.number) (plan_of x).faults) → Has a p.faults
-        on (f, i, is) = (f, subst (λ z. In f z) (sym sides.faults) (in_all_faults f place.0 qs within (subst (λ z. In f z) (sym place.2.faults) i)), is)
+    has_there a (f, i, is) = (f, subst (λ z. In f z) (sym sides.faults) (in_all_faults f (plan_of x) qs within i), is)
 
     module _ (w : StrategyData) (at_type : dispatch w (struct fs n) ≡ structured v d ws) where
       passes_there : (i : ℕ) → Passes x i → PassesBeside s w (struct fs n) m bs i

@@ -18,17 +18,21 @@ use Rattle.vx_column_plan.specs.Shared.{number_by}
 use Rattle.vx_write_answer.specs.declared.error.WriteError.{WriteError}
 use Rattle.vx_write_answer.specs.declared.error.WriteError.TheVariants.{OutOfMemory}
 use Rattle.vx_column_worker.specs.Course.{Course, plan_of}
+use Rattle.vx_column_ids.specs.declared.part.ColumnPart.{ColumnPart}
 use Rattle.vx_column_inputs.specs.declared.inputs.Input.{Input}
 use Rattle.vx_column_worker.specs.declared.worker.Job.{Job}
 use Rattle.vx_column_worker.specs.declared.worker.Done.{Done}
 use Rattle.vx_column_worker.specs.Jobs.{JobsFit}
-use Rattle.vx_column_worker.specs.Staffed.{Counts, jobs_from, list_kind, list_may_fail, list_to_come}
+use Rattle.vx_column_worker.specs.Worked.{SharedPast}
+use Rattle.vx_column_worker.specs.Staffed.{Counts, jobs_from, list_kind, list_may_fail, list_to_come, list_left}
 use Rattle.vx_write_columns.specs.Courses.{courses_of}
 use Rattle.vx_write_columns.specs.Numbers.{ColumnOutcome, AllDone, AllStandIn, AllOk, HasOwn, IsFirstOwn, layouts_by}
-use Rattle.vx_write_columns.specs.Shared.{AllClean, StandsBy, SharedDone, OneCause, SharedStopped}
+use Rattle.vx_write_columns.specs.Ends.{IsFirstOf, EndsTell}
+use Rattle.vx_write_columns.specs.Shared.{AllClean, StandsBy, SharedDone, SharedStopped}
 use Rattle.vx_write_columns.specs.Stopped.{AllKept, Failed}
-use Rattle.vx_write_columns.proofs.Rows.{Row, none_counted, courses_in, lent_in, back_in, after_in, outcomes_in, AllWorked, Ran, RowsOf, rows_of, AreNumbered, are_numbered, writes_in, faults_in, made_in, seen_in, all_done, all_clean, all_counted, all_quiet, some_own, left_is, each_seat, counts_none}
-use Rattle.vx_write_columns.proofs.Failing.{sum_same, kinds_are, all_kept, one_cause, has_failed}
+use Rattle.vx_write_columns.proofs.Rows.{Row, none_counted, courses_in, lent_in, back_in, after_in, outcomes_in, AllWorked, Ran, RowsOf, rows_of, writes_in, faults_in, made_in, seen_in, all_done, all_clean, all_counted, all_quiet, some_own, left_is, each_seat, counts_none}
+use Rattle.vx_write_columns.proofs.Failing.{sum_same, kinds_are, all_kept, has_failed}
+use Rattle.vx_write_columns.proofs.Ending.{first_of}
 
 -- The rows of workers that were dismissed: what was lent and came back, what came of the columns, and what the seats count.
 pub record Closed {C : Type 0} (kind faults : C → ℕ) (may : C → ℕ → Type 0) (first pairs : ℕ) (xs : List Course) (lent back : List C) (outcomes : List ColumnOutcome) (writes failed made seen : ℕ) : Type 0 where
@@ -42,7 +46,6 @@ pub record Closed {C : Type 0} (kind faults : C → ℕ) (may : C → ℕ → Ty
   pub made_are : made_in (after_in rows) ≡ made
   pub seen_are : seen_in (after_in rows) ≡ seen
   pub worked : AllWorked kind faults may first pairs rows
-  pub numbered : AreNumbered 0 xs
 
 -- it counted nothing yet
 abbrev pub IsIdle : Counts → Type 0
@@ -50,11 +53,11 @@ IsIdle a = (a.writes ≡ 0) × (a.faults ≡ 0) × (a.made ≡ 0) × (a.seen ≡
 
 module _ {C W S : Type 0} (image : ℕ → ℕ → ChunkData → ChunkData) (kind faults : C → ℕ) (may : C → ℕ → Type 0) (first pairs : ℕ)
     (job : W → Option (Job C)) (done : W → Option (Done C)) (seat : W → S) (count : S → Counts) (allowed : List Pair)
-    (is : List Input) (lent : List C) (old new : List W) (seats : List S) (same : length lent ≡ length is) (jobs : map job old ≡ map Some (jobs_from 0 is lent))
-    (fits : JobsFit allowed image kind list_kind list_may_fail list_to_come 0 is lent) (seated : map seat old ≡ seats) (idle : All (λ s. IsIdle (count s)) seats)
+    (is : List Input) (ps : List ColumnPart) (lent : List C) (old new : List W) (seats : List S) (parts : length ps ≡ length is) (same : length lent ≡ length is) (jobs : map job old ≡ map Some (jobs_from 0 is ps lent))
+    (fits : JobsFit allowed image kind list_kind list_may_fail list_to_come list_left 0 is ps lent) (seated : map seat old ≡ seats) (idle : All (λ s. IsIdle (count s)) seats)
     (ran : AllZip (Ran image kind faults may first pairs job done (λ w. count (seat w))) old new) where
   pub rows_left : RowsOf image kind faults may first pairs job done (λ w. count (seat w)) (courses_of image kind list_to_come 0 is lent) lent new
-  rows_left = rows_of image kind faults may first pairs job done (λ w. count (seat w)) allowed 0 is lent old new same jobs fits
+  rows_left = rows_of image kind faults may first pairs job done (λ w. count (seat w)) allowed 0 is ps lent old new parts same jobs fits
       (All-weaker (λ w. IsIdle (count (seat w))) (λ w. count (seat w) ≡ none_counted) (λ w h. counts_none (count (seat w)) h) old (each_seat seat (λ s. IsIdle (count s)) old seats seated idle)) ran
 
   module _ (seats_back : List S) (back : List C) (outcomes : List ColumnOutcome) (given_up : seats_back ≡ map seat new) (returned : map Some back ≡ map (λ w. option_map (λ d. d.compressor) (done w)) new)
@@ -75,7 +78,6 @@ module _ {C W S : Type 0} (image : ℕ → ℕ → ChunkData → ChunkData) (kin
       made_are = summed (λ a. a.made);
       seen_are = summed (λ a. a.seen);
       worked = rows_left.worked;
-      numbered = are_numbered image kind list_to_come 0 is lent;
     }
 
 -- what a closed sink tells of its history, whose last number has 32 bits
@@ -117,14 +119,14 @@ module _ {C : Type 0} (kind faults : C → ℕ) (may : C → ℕ → Type 0) (fi
     all_written : writes ≡ sum_by (λ x. length (plan_of x).pairs) xs
     all_written = sym k.writes_are ∙ all_counted kind faults may first (length pairs) k.rows k.worked all_ok ∙ ap (sum_by (λ (x : Course). length (plan_of x).pairs)) k.courses
 
-    done_all : AllDone 0 (map plan_of xs) outcomes
+    done_all : AllDone (map plan_of xs) outcomes
     done_all =
-        subst (λ z. AllDone 0 (map plan_of z) outcomes) k.courses (subst (λ z. AllDone 0 (map plan_of (courses_in k.rows)) z) k.outcomes_are
-        (all_done kind faults may first (length pairs) 0 k.rows (subst (AreNumbered 0) (sym k.courses) k.numbered) k.worked all_ok))
+        subst (λ (z : List Course). AllDone (map plan_of z) outcomes) k.courses
+        (subst (λ (z : List ColumnOutcome). AllDone (map plan_of (courses_in k.rows)) z) k.outcomes_are (all_done kind faults may first (length pairs) k.rows k.worked all_ok))
 
     pub shared_done : (next : ℕ) (before now : Option (List (List ℕ))) (t : Ty) (rows : ℕ) (l : LayoutData ℕ) (history : List Receipt) → StandsBy pairs first next before now history
         → sum_by (λ x. length (plan_of x).pairs) xs ≡ length pairs → (writes ≡ length pairs → paths history ≡ sort (map (λ c. c.path) pairs))
-        → ((n : ℕ) (ps : List Plan) → AllDone 0 ps outcomes → AllStandIn history 0 ps → l ≡ struct_layout t rows (layouts_by (number_by n history) 0 ps))
+        → ((n : ℕ) (ps : List Plan) → AllDone ps outcomes → AllStandIn history ps → l ≡ struct_layout t rows (layouts_by (number_by n history) ps))
         → SharedDone pairs first next before now xs t rows l
     shared_done next before now t rows l history stands all whole laid = record {
       history = history;
@@ -139,15 +141,28 @@ module _ {C : Type 0} (kind faults : C → ℕ) (may : C → ℕ → Type 0) (fi
     refused_row : (e ≡ OutOfMemory) ⊎ IsFirstOwn (outcomes_in k.rows) e
     refused_row = subst (λ z. (e ≡ OutOfMemory) ⊎ IsFirstOwn z e) (sym k.outcomes_are) refused
 
-    pub shared_stopped : (next : ℕ) (before now : Option (List (List ℕ))) (history : List Receipt) → StandsBy pairs first next before now history → SharedStopped pairs first next before now xs e
-    shared_stopped next before now history stands = record {
-      history = history;
-      stands = stands;
-      cause = subst (λ z. OneCause first (length pairs) z e) k.courses (one_cause kind faults may first (length pairs) k.rows e k.worked refused_row);
-    }
+    module _ (before now : ℕ) (may_fail : ℕ → Type 0) (rose : 0 < failed → Rose before now) (could : 0 < failed → ¬ (NeverFails may_fail)) (quiet : failed ≡ 0 → now ≡ before) where
+      rose_row : 0 < faults_in (after_in k.rows) → Rose before now
+      rose_row l = rose (subst (λ z. 0 < z) k.failed_are l)
 
-    pub failed_so : (before now : ℕ) (may_fail : ℕ → Type 0) → (0 < failed → Rose before now) → (0 < failed → ¬ (NeverFails may_fail)) → (failed ≡ 0 → now ≡ before) → Failed before now may_fail faults may lent back e
-    failed_so before now may_fail rose could quiet =
-        subst (λ z. Failed before now may_fail faults may z back e) k.lent_are (subst (λ z. Failed before now may_fail faults may (lent_in k.rows) z e) k.back_are
-        (has_failed kind faults may first (length pairs) k.rows e before now may_fail k.worked refused_row
-        (λ l. rose (subst (λ z. 0 < z) k.failed_are l)) (λ l. could (subst (λ z. 0 < z) k.failed_are l)) (λ z. quiet (sym k.failed_are ∙ z))))
+      could_row : 0 < faults_in (after_in k.rows) → ¬ (NeverFails may_fail)
+      could_row l = could (subst (λ z. 0 < z) k.failed_are l)
+
+      quiet_row : faults_in (after_in k.rows) ≡ 0 → now ≡ before
+      quiet_row z = quiet (sym k.failed_are ∙ z)
+
+      first_row : (e ≡ OutOfMemory) ⊎ IsFirstOf (SharedPast first (length pairs)) (EndsTell before now may_fail faults may lent back) xs e
+      first_row =
+          subst (λ (z : List Course). (e ≡ OutOfMemory) ⊎ IsFirstOf (SharedPast first (length pairs)) (EndsTell before now may_fail faults may lent back) z e) k.courses
+          (subst (λ (z : List C). (e ≡ OutOfMemory) ⊎ IsFirstOf (SharedPast first (length pairs)) (EndsTell before now may_fail faults may z back) (courses_in k.rows) e) k.lent_are
+          (subst (λ (z : List C). (e ≡ OutOfMemory) ⊎ IsFirstOf (SharedPast first (length pairs)) (EndsTell before now may_fail faults may (lent_in k.rows) z) (courses_in k.rows) e) k.back_are
+          (first_of kind faults may first (length pairs) k.rows e before now may_fail k.worked refused_row rose_row could_row quiet_row)))
+
+      pub shared_stopped : (next : ℕ) (told told_now : Option (List (List ℕ))) (history : List Receipt) → StandsBy pairs first next told told_now history
+          → SharedStopped pairs first next told told_now (EndsTell before now may_fail faults may lent back) xs e
+      shared_stopped next told told_now history stands = record { history = history; stands = stands; whose = first_row }
+
+      pub failed_so : Failed before now may_fail faults may lent back e
+      failed_so =
+          subst (λ z. Failed before now may_fail faults may z back e) k.lent_are (subst (λ z. Failed before now may_fail faults may (lent_in k.rows) z e) k.back_are
+          (has_failed kind faults may first (length pairs) k.rows e before now may_fail k.worked refused_row rose_row could_row quiet_row))

@@ -43,13 +43,13 @@ columns_there (listed e o v f) t k h = absurd (none_some k h)
 
 -- ---- valid input
 
-module _ {C : Type 0} (counted : (o : Outset) → MovesAreCountedAt o) (s : Setting) (w : StrategyData) (t : Ty) (m : Bool) (first next : ℕ) (faults faults_now : ℕ) (may must : ℕ → Type 0)
-    (to_come to_come_now : Option (List ChunkData)) (before now : Option (List (List ℕ))) (e : WriteError)
-    (h : ColumnsHalted s w t m (PassesBeside s w t m) first next faults faults_now may must to_come to_come_now before now e)
+module _ {C : Type 0} (counted : (o : Outset) → MovesAreCountedAt o) (s : Setting) (w : StrategyData) (t : Ty) (m : Bool) (columns : List ChunkData → WriteError → Type 0) (first next : ℕ) (faults faults_now : ℕ)
+    (may must : ℕ → Type 0) (to_come to_come_now : Option (List ChunkData)) (before now : Option (List (List ℕ))) (e : WriteError)
+    (h : ColumnsHalted s w t m (PassesBeside s w t m) columns first next faults faults_now may must to_come to_come_now before now e)
     (stood stands : ℕ) (may_fail : ℕ → Type 0) (pressed : C → ℕ) (may_press : C → ℕ → Type 0) (lent back : List C) (f : Failed stood stands may_fail pressed may_press lent back e) where
   pub complete_halted : (v d : StrategyData) (ws : StrategyList) (count : ℕ) → columns_of t ≡ Some count → dispatch w t ≡ structured v d ws → (xs : List ChunkData) → to_come ≡ Some xs → Valid s w t m first 0 xs
       → IsCalm faults faults_now → IsCalm stood stands → AllCalm pressed lent back → e ≡ OutOfMemory
   complete_halted v d ws count is at_type xs told valid calm still quiet =
       only_memory pressed may_press lent back e faults faults_now stood stands may_fail
-      (halted_outside counted s w t m first next faults faults_now may must to_come to_come_now before now e xs v d ws (struct_fields t) (nullable t) (struct_is t count is) at_type h told valid)
+      (halted_outside counted s w t m columns first next faults faults_now may must to_come to_come_now before now e xs v d ws (struct_fields t) (nullable t) (struct_is t count is) at_type h told valid)
       h.told.asked.counted f calm still quiet

@@ -116,8 +116,8 @@ module _ (counted : (o : Outset) → MovesAreCountedAt o) (s : Setting) (v d : S
       (beside_past s w (struct fs n) m taken)
       (subst (λ (z : Plan). HasColumnsCause (struct fs n) (PassesBeside s w (struct fs n) m taken) z taken first e) (taken_is s w (struct fs n) m taken true valid.of_schema) h)
 
-  module _ (next faults faults_now : ℕ) (may must : ℕ → Type 0) (to_come to_come_now : Option (List ChunkData)) (before now : Option (List (List ℕ))) (e : WriteError) (xs : List ChunkData)
-      (h : ColumnsHalted s w (struct fs n) m (PassesBeside s w (struct fs n) m) first next faults faults_now may must to_come to_come_now before now e)
+  module _ (columns : List ChunkData → WriteError → Type 0) (next faults faults_now : ℕ) (may must : ℕ → Type 0) (to_come to_come_now : Option (List ChunkData)) (before now : Option (List (List ℕ))) (e : WriteError) (xs : List ChunkData)
+      (h : ColumnsHalted s w (struct fs n) m (PassesBeside s w (struct fs n) m) columns first next faults faults_now may must to_come to_come_now before now e)
       (valid : Valid s w (struct fs n) m first 0 xs) where
     -- of what was taken, and what was still to come
     by_rest : (rest : List ChunkData) → to_come_now ≡ Some rest → xs ≡ h.taken ++ rest → (b : Bool) → h.heard ≡ b → IsOutside e
@@ -137,10 +137,10 @@ module _ (counted : (o : Outset) → MovesAreCountedAt o) (s : Setting) (v d : S
         by (rest, left, is) = by_rest rest left is h.heard refl
 
 -- a write by columns that was refused, where the source tells a valid input
-pub halted_outside : ((o : Outset) → MovesAreCountedAt o) → (s : Setting) (w : StrategyData) (t : Ty) (m : Bool) (first next faults faults_now : ℕ) (may must : ℕ → Type 0) (to_come to_come_now : Option (List ChunkData))
-    (before now : Option (List (List ℕ))) (e : WriteError) (xs : List ChunkData) (v d : StrategyData) (ws : StrategyList) (fs : Tys) (n : Bool) → t ≡ struct fs n → dispatch w t ≡ structured v d ws
-    → ColumnsHalted s w t m (PassesBeside s w t m) first next faults faults_now may must to_come to_come_now before now e → to_come ≡ Some xs → Valid s w t m first 0 xs → IsOutside e
-halted_outside counted s w t m first next faults faults_now may must to_come to_come_now before now e xs v d ws fs n is at_type h told valid =
-    struct_outside counted s v d ws m fs n w (subst (λ (u : Ty). dispatch w u ≡ structured v d ws) is at_type) first next faults faults_now may must to_come to_come_now before now e xs
-    (subst (λ (u : Ty). ColumnsHalted s w u m (PassesBeside s w u m) first next faults faults_now may must to_come to_come_now before now e) is h)
+pub halted_outside : ((o : Outset) → MovesAreCountedAt o) → (s : Setting) (w : StrategyData) (t : Ty) (m : Bool) (columns : List ChunkData → WriteError → Type 0) (first next faults faults_now : ℕ) (may must : ℕ → Type 0)
+    (to_come to_come_now : Option (List ChunkData)) (before now : Option (List (List ℕ))) (e : WriteError) (xs : List ChunkData) (v d : StrategyData) (ws : StrategyList) (fs : Tys) (n : Bool) → t ≡ struct fs n → dispatch w t ≡ structured v d ws
+    → ColumnsHalted s w t m (PassesBeside s w t m) columns first next faults faults_now may must to_come to_come_now before now e → to_come ≡ Some xs → Valid s w t m first 0 xs → IsOutside e
+halted_outside counted s w t m columns first next faults faults_now may must to_come to_come_now before now e xs v d ws fs n is at_type h told valid =
+    struct_outside counted s v d ws m fs n w (subst (λ (u : Ty). dispatch w u ≡ structured v d ws) is at_type) first columns next faults faults_now may must to_come to_come_now before now e xs
+    (subst (λ (u : Ty). ColumnsHalted s w u m (PassesBeside s w u m) columns first next faults faults_now may must to_come to_come_now before now e) is h)
     (subst (λ (u : Ty). Valid s w u m first 0 xs) is valid) told

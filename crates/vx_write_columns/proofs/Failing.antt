@@ -1,4 +1,4 @@
--- What failed of workers' sink and compressors, and why they were refused.
+-- What failed of workers' sink and compressors.
 use Rattle.std.proofs.Common.{◌≡◌, ◌⊎◌, ◌+◌, ◌<◌, ◌≤◌, ◌∷◌, ◌∙◌, ℕ, zero, suc, true, List, map, length, Option, Some, None, Result, Ok, Err, slice_get, option_map, refl, sym, ap, ap₂, subst, inl, inr, arith, []}
 use Rattle.std.specs.Prelude.{IfErr, sum_by}
 use Rattle.std.specs.Global.{Vec}
@@ -11,11 +11,9 @@ use Rattle.vx_seats.specs.Turns.{NeverFails}
 use Rattle.vx_write_answer.specs.declared.error.WriteError.{WriteError}
 use Rattle.vx_write_answer.specs.declared.error.WriteError.TheVariants.{SinkFault, CompressFault, OutOfMemory}
 use Rattle.vx_write_answer.specs.Causes.{is_sink_fault}
-use Rattle.vx_column_worker.specs.Course.{Course}
 use Rattle.vx_column_worker.specs.Staffed.{Counts}
-use Rattle.vx_column_worker.specs.Worked.{WorkerCause, SharedPast, SeatStopped, PressedOnly}
+use Rattle.vx_column_worker.specs.Worked.{SeatStopped, PressedOnly}
 use Rattle.vx_write_columns.specs.Numbers.{ColumnOutcome, AllOk, IsFirstOwn}
-use Rattle.vx_write_columns.specs.Shared.{OneCause}
 use Rattle.vx_write_columns.specs.Stopped.{SinkFailed, CompressorFailed, KeptOrFailed, AllKeptOrFailed, AllKept, Failed}
 use Rattle.vx_write_columns.proofs.Rows.{Row, none_counted, courses_in, lent_in, back_in, after_in, outcomes_in, Worked, AllWorked, rest_ok, faults_in, row_of}
 
@@ -101,7 +99,7 @@ module _ {C : Type 0} (kind faults : C → ℕ) (may : C → ℕ → Type 0) (fi
       let more = counts_within rs k r e in
       omega (arith, s, more)
 
-  some_fault : (rs : List (Row C)) (k : ℕ) → AllDid rs → slice_get (outcomes_in rs) k ≡ Some (Err SinkFault) → 0 < faults_in (after_in rs)
+  pub some_fault : (rs : List (Row C)) (k : ℕ) → AllDid rs → slice_get (outcomes_in rs) k ≡ Some (Err SinkFault) → 0 < faults_in (after_in rs)
   some_fault rs k w e = on (row_of kind faults may first pairs rs k (Err SinkFault) w e)
     where
       on : (r : Row C) × (slice_get rs k ≡ Some r) × (r.done.outcome ≡ Err SinkFault) × Worked kind faults may first pairs r → 0 < faults_in (after_in rs)
@@ -113,19 +111,6 @@ module _ {C : Type 0} (kind faults : C → ℕ) (may : C → ℕ → Type 0) (fi
           omega (arith, one, most)
 
   -- ---- the refusal
-
-  pub one_cause : (rs : List (Row C)) (e : WriteError) → AllDid rs → (e ≡ OutOfMemory) ⊎ IsFirstOwn (outcomes_in rs) e → OneCause first pairs (courses_in rs) e
-  one_cause rs e w (inl m) = inl m
-  one_cause rs e w (inr f) = on (row_of kind faults may first pairs rs f.place (Err e) w f.at)
-    where
-      on : (r : Row C) × (slice_get rs f.place ≡ Some r) × (r.done.outcome ≡ Err e) × Worked kind faults may first pairs r → OneCause first pairs (courses_in rs) e
-      on (r, at, is, d) = inr (
-        f.place,
-        r.course,
-        slice_get-map (λ (z : Row C). z.course) rs f.place ∙ ap (option_map (λ (z : Row C). z.course)) at,
-        f.own,
-        subst (λ (o : ColumnOutcome). IfErr o (WorkerCause (SharedPast first pairs) r.course)) is d.refused,
-      )
 
   pub has_failed : (rs : List (Row C)) (e : WriteError) (before now : ℕ) (may_fail : ℕ → Type 0) → AllDid rs → (e ≡ OutOfMemory) ⊎ IsFirstOwn (outcomes_in rs) e
       → (0 < faults_in (after_in rs) → Rose before now) → (0 < faults_in (after_in rs) → ¬ (NeverFails may_fail)) → (faults_in (after_in rs) ≡ 0 → now ≡ before)

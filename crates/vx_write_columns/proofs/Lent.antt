@@ -8,7 +8,10 @@ use Rattle.vx_seats.specs.Turns.{NeverFails}
 use Rattle.vx_write_answer.specs.declared.error.WriteError.{WriteError}
 use Rattle.vx_write_answer.specs.declared.error.WriteError.TheVariants.{SinkFault, CompressFault, OutOfMemory}
 use Rattle.vx_column_worker.specs.Course.{Course}
+use Rattle.vx_column_worker.specs.Worked.{SharedPast}
 use Rattle.vx_write_columns.proofs.Told.{then_same}
+use Rattle.vx_write_columns.proofs.Firsts.{first_weaker}
+use Rattle.vx_write_columns.specs.Ends.{End}
 use Rattle.vx_write_columns.specs.Shared.{StandsBy, SharedDone, SharedStopped}
 use Rattle.vx_write_columns.specs.Stopped.{KeptOrFailed, AllKeptOrFailed, Failed}
 
@@ -24,8 +27,8 @@ none_stands pairs first before = record {
   last = omega arith;
 }
 
-pub none_shared : (pairs : List Pair) (first : ℕ) (before : Option (List (List ℕ))) (xs : List Course) → SharedStopped pairs first first before before xs OutOfMemory
-none_shared pairs first before xs = record { history = []; stands = none_stands pairs first before; cause = inl refl }
+pub none_shared : (pairs : List Pair) (first : ℕ) (before : Option (List (List ℕ))) (tells : List End → Type 0) (xs : List Course) → SharedStopped pairs first first before before tells xs OutOfMemory
+none_shared pairs first before tells xs = record { history = []; stands = none_stands pairs first before; whose = inl refl }
 
 -- ---- nothing failed
 
@@ -71,7 +74,10 @@ module _ (pairs : List Pair) (first given : ℕ) (next : ℕ) (before handed now
       subst (λ z. SharedDone pairs z next handed now ys t rows l) (sym same)
       (subst (λ z. SharedDone pairs first next z now ys t rows l) (sym told) (subst (λ z. SharedDone pairs first next before now z t rows l) courses h))
 
-  pub stopped_by : (e : WriteError) → SharedStopped pairs first next before now xs e → SharedStopped pairs given next handed now ys e
-  stopped_by e h =
-      subst (λ z. SharedStopped pairs z next handed now ys e) (sym same)
-      (subst (λ z. SharedStopped pairs first next z now ys e) (sym told) (subst (λ z. SharedStopped pairs first next before now z e) courses h))
+  -- whatever else is told of the columns' ends
+  pub stopped_by : (f g : List End → Type 0) (e : WriteError) → ((ends : List End) → f ends → g ends) → SharedStopped pairs first next before now f xs e → SharedStopped pairs given next handed now g ys e
+  stopped_by f g e more h =
+      subst (λ z. SharedStopped pairs z next handed now g ys e) (sym same)
+      (subst (λ z. SharedStopped pairs first next z now g ys e) (sym told)
+      (subst (λ z. SharedStopped pairs first next before now g z e) courses
+      (record { history = h.history; stands = h.stands; whose = ⊎_elim (λ m. inl m) (λ i. inr (first_weaker (SharedPast first (length pairs)) f g xs e more i)) h.whose })))

@@ -1,12 +1,13 @@
 pub mod Told
 pub mod Readable
 pub mod OneKind
-pub mod Linked
 pub mod Beside
 pub mod Rows
 pub mod Failing
+pub mod Ending
 pub mod Last
 pub mod Closing
+pub mod Firsts
 pub mod Lent
 pub mod Calm
 pub mod Causing

@@ -1,8 +1,9 @@
 -- What a column's tracker counts is at most what the plan reserves.
-use Rattle.std.proofs.Common.{◌≡◌, ◌+◌, ◌^◌, ◌≤◌, ◌++◌, ◌∙◌, ℕ, Bool, true, List, length, Some, None, slice_get, refl, ap, subst, arith, append-nil, []}
+use Rattle.std.proofs.Common.{◌≡◌, ◌+◌, ◌^◌, ◌≤◌, ◌++◌, ◌∙◌, ℕ, Bool, true, List, length, Some, None, slice_get, refl, sym, ap, subst, arith, append-nil, []}
 use Rattle.vx_model.specs.Ty.{Ty, Tys, struct}
 use Rattle.vx_model.specs.ChunkData.{ChunkData}
-use Rattle.vx_named_tasks.specs.Names.{Outset}
+use Rattle.vx_named_tasks.specs.Names.{Outset, CanBegin}
+use Rattle.vx_named_tasks.proofs.NamedLaws.{column_begins}
 use Rattle.vx_strategy_spec.specs.StrategyData.{StrategyData, StrategyList, structured}
 use Rattle.vx_strategy_spec.specs.Walk.{duplicate}
 use Rattle.vx_strategy_spec.specs.Dispatch.{dispatch}
@@ -18,9 +19,9 @@ use Rattle.vx_machine_promises.specs.Promises.{MovesAreCountedAt, CountedBy}
 use Rattle.vx_machine_runs.proofs.Counting.{nth_in}
 use Rattle.vx_column_worker.specs.Course.{Course, write_of, outset_of, plan_of}
 use Rattle.vx_column_worker.specs.Causes.{Passes}
-use Rattle.vx_column_worker.proofs.Begins.{can_begin}
 use Rattle.vx_write_columns.specs.Beside.{PassesBeside}
-use Rattle.vx_write_columns.proofs.Causing.{course_at, course_there, reserves_within}
+use Rattle.vx_write_columns.proofs.Beside.{course_at}
+use Rattle.vx_write_columns.proofs.Causing.{course_there, reserves_within}
 
 -- the future in which no more comes
 abbrev no_more : Future
@@ -29,14 +30,16 @@ no_more = record { later = []; fits = true }
 pub passes_within : ((o : Outset) → MovesAreCountedAt o) → (x : Course) (n : ℕ) → Passes x n → n ≤ (plan_of x).reserved
 passes_within counted x n h =
     let c = h.comes in
-    let r : ReachedAt (write_of x) (outset_of x.number) x.chunks no_more h.notes (appended c.moves) c.counts
+    let r : ReachedAt (write_of x) (outset_of x) x.chunks no_more h.notes (appended c.moves) c.counts
     = record { tree = c.tree; moves = c.moves; runs = c.runs; seen_is = c.seen_is; wrote = refl; tracked = c.counts_are } in
-    let m : CountedBy (write_of x) (planned_at (write_of x) (outset_of x.number) x.chunks no_more) c.counts c.move
-    = counted (outset_of x.number) (write_of x) x.chunks no_more h.notes (appended c.moves) c.counts r (can_begin x.number (length (x.chunks ++ []))) c.move
+    let begins : CanBegin (outset_of x) (length (x.chunks ++ []))
+    = subst (λ (z : List ChunkData). CanBegin (outset_of x) (length z)) (sym (append-nil x.chunks)) (column_begins x.number (length x.chunks)) in
+    let m : CountedBy (write_of x) (planned_at (write_of x) (outset_of x) x.chunks no_more) c.counts c.move
+    = counted (outset_of x) (write_of x) x.chunks no_more h.notes (appended c.moves) c.counts r begins c.move
     (nth_in (moves_at (write_of x) c.tree) h.place c.move c.place) in
-    let same : (planned_at (write_of x) (outset_of x.number) x.chunks no_more).reserved ≡ (plan_of x).reserved
-    = ap (λ (z : List ChunkData). (stream_plan x.setting x.column.way x.column.type x.column.mark (outset_of x.number) z true).reserved) (append-nil x.chunks) in
-    let t : c.counts + c.move.act.raises ≤ 0 + (planned_at (write_of x) (outset_of x.number) x.chunks no_more).reserved = m.tracked in
+    let same : (planned_at (write_of x) (outset_of x) x.chunks no_more).reserved ≡ (plan_of x).reserved
+    = ap (λ (z : List ChunkData). (stream_plan x.setting x.column.way x.column.type x.column.mark (outset_of x) z true).reserved) (append-nil x.chunks) in
+    let t : c.counts + c.move.act.raises ≤ 0 + (planned_at (write_of x) (outset_of x) x.chunks no_more).reserved = m.tracked in
     let is : n ≡ c.counts + c.move.act.raises = c.number_is in
     omega arith
 

@@ -20,11 +20,13 @@ use Rattle.vx_write_answer.specs.declared.error.WriteError.TheVariants.{SourceFa
 use Rattle.vx_write_answer.specs.Causes.{is_sink_fault}
 use Rattle.vx_column_worker.specs.Course.{Course, plan_of}
 use Rattle.vx_column_worker.specs.Causes.{IsDone}
+use Rattle.vx_column_ids.specs.Outsets.{outset_of}
+use Rattle.vx_column_ids.specs.declared.part.ColumnPart.{ColumnPart}
 use Rattle.vx_column_inputs.specs.declared.inputs.Input.{Input}
 use Rattle.vx_column_worker.specs.declared.worker.Job.{Job}
 use Rattle.vx_column_worker.specs.declared.worker.Done.{Done}
 use Rattle.vx_column_worker.specs.Jobs.{JobFits, JobsFit, course_of}
-use Rattle.vx_column_worker.specs.Staffed.{Counts, HasWorked, HasRun, MayRun, jobs_from, list_kind, list_may_fail, list_to_come}
+use Rattle.vx_column_worker.specs.Staffed.{Counts, HasWorked, HasRun, MayRun, jobs_from, list_kind, list_may_fail, list_to_come, list_left}
 use Rattle.vx_column_worker.specs.Worked.{SeatStopped}
 use Rattle.vx_write_columns.specs.Courses.{courses_of}
 use Rattle.vx_write_columns.specs.Numbers.{ColumnOutcome, AllDone, IsOwn, AllOk, HasOwn}
@@ -114,27 +116,31 @@ module _ {C W : Type 0} (image : ℕ → ℕ → ChunkData → ChunkData) (kind 
     pub worked : AllWorked kind faults may first pairs rows
 
   module _ (allowed : List seats.Pair) where
-    told_is : (i : Input) (column : ℕ) (c : C) → JobFits allowed (image (kind c)) column i (list_kind i.source) (list_may_fail i.source) (list_to_come i.source) → list_to_come i.source ≡ Some (unwrap_or (list_to_come i.source) [])
-    told_is i column c f = f.told ∙ ap Some (sym (ap (λ (o : Option (List ChunkData)). unwrap_or o []) f.told))
+    abbrev MayDo : ℕ → Input → ColumnPart → C → Type 0
+    MayDo k i p c = JobFits allowed (image (kind c)) k i (outset_of p) (list_kind i.source) (list_may_fail i.source) (list_to_come i.source) (list_left i.source)
 
-    pub rows_of : (k : ℕ) (is : List Input) (cs : List C) (old new : List W) → length cs ≡ length is → map job old ≡ map Some (jobs_from k is cs)
-        → JobsFit allowed image kind list_kind list_may_fail list_to_come k is cs → All (λ w. counts w ≡ none_counted) old → AllZip Ran old new → RowsOf (courses_of image kind list_to_come k is cs) cs new
-    rows_of k [] [] [] [] e j f z h = record { rows = []; courses = refl; lent = refl; after = refl; dones = refl; ended = All-nil (λ w. job w ≡ None); worked = tt }
-    rows_of k [] [] [] (b ∷ new) e j f z h = absurd h
-    rows_of k [] [] (a ∷ old) new e j f z h = absurd (more_than_none (job a) (map job old) j)
-    rows_of k [] (c ∷ cs) old new e j f z h = absurd (omega (arith, e))
-    rows_of k (i ∷ is) [] old new e j f z h = absurd (omega (arith, e))
-    rows_of k (i ∷ is) (c ∷ cs) [] new e j f z h = absurd (none_than_more (Some (record { column = k; input = i; compressor = c })) (map Some (jobs_from (suc k) is cs)) j)
-    rows_of k (i ∷ is) (c ∷ cs) (a ∷ old) [] e j f z h = absurd h
-    rows_of k (i ∷ is) (c ∷ cs) (a ∷ old) (b ∷ new) e j f z h =
+    told_is : (k : ℕ) (i : Input) (p : ColumnPart) (c : C) → MayDo k i p c → list_to_come i.source ≡ Some (unwrap_or (list_to_come i.source) [])
+    told_is k i p c f = f.told ∙ ap Some (sym (ap (λ (o : Option (List ChunkData)). unwrap_or o []) f.told))
+
+    pub rows_of : (k : ℕ) (is : List Input) (ps : List ColumnPart) (cs : List C) (old new : List W) → length ps ≡ length is → length cs ≡ length is → map job old ≡ map Some (jobs_from k is ps cs)
+        → JobsFit allowed image kind list_kind list_may_fail list_to_come list_left k is ps cs → All (λ w. counts w ≡ none_counted) old → AllZip Ran old new → RowsOf (courses_of image kind list_to_come k is cs) cs new
+    rows_of k [] ps [] [] [] l e j f z h = record { rows = []; courses = refl; lent = refl; after = refl; dones = refl; ended = All-nil (λ w. job w ≡ None); worked = tt }
+    rows_of k [] ps [] [] (b ∷ new) l e j f z h = absurd h
+    rows_of k [] ps [] (a ∷ old) new l e j f z h = absurd (more_than_none (job a) (map job old) j)
+    rows_of k [] ps (c ∷ cs) old new l e j f z h = absurd (omega (arith, e))
+    rows_of k (i ∷ is) [] cs old new l e j f z h = absurd (omega (arith, l))
+    rows_of k (i ∷ is) (p ∷ ps) [] old new l e j f z h = absurd (omega (arith, e))
+    rows_of k (i ∷ is) (p ∷ ps) (c ∷ cs) [] new l e j f z h = absurd (none_than_more (Some (record { column = k; input = i; part = p; compressor = c })) (map Some (jobs_from (suc k) is ps cs)) j)
+    rows_of k (i ∷ is) (p ∷ ps) (c ∷ cs) (a ∷ old) [] l e j f z h = absurd h
+    rows_of k (i ∷ is) (p ∷ ps) (c ∷ cs) (a ∷ old) (b ∷ new) l e j f z h =
         put (ran_out mine (job b) (counts a) (counts b) (done b) (subst (λ o. HasRun image kind faults may first pairs o (job b) (counts a) (counts b) (done b)) is_mine h.0))
-        (rows_of (suc k) is cs old new (omega (arith, e)) (same_tail (job a) (Some mine) (map job old) (map Some (jobs_from (suc k) is cs)) j) f.1 (All-tail (λ w. counts w ≡ none_counted) a old z) h.1)
+        (rows_of (suc k) is ps cs old new (omega (arith, l)) (omega (arith, e)) (same_tail (job a) (Some mine) (map job old) (map Some (jobs_from (suc k) is ps cs)) j) f.1 (All-tail (λ w. counts w ≡ none_counted) a old z) h.1)
       where
         mine : Job C
-        mine = record { column = k; input = i; compressor = c }
+        mine = record { column = k; input = i; part = p; compressor = c }
 
         is_mine : job a ≡ Some mine
-        is_mine = same_head (job a) (Some mine) (map job old) (map Some (jobs_from (suc k) is cs)) j
+        is_mine = same_head (job a) (Some mine) (map job old) (map Some (jobs_from (suc k) is ps cs)) j
 
         here : List ChunkData
         here = unwrap_or (list_to_come i.source) []
@@ -150,7 +156,7 @@ module _ {C W : Type 0} (image : ℕ → ℕ → ChunkData → ChunkData) (kind 
           ended = All-cons (λ w. job w ≡ None) b new n r.ended;
           worked = (
             subst (λ z. HasWorked kind faults may first pairs (course_of (image (kind c)) k i here) c z (counts b) x) (All-head (λ w. counts w ≡ none_counted) a old z)
-                (t here (told_is i k c f.0)),
+                (t here (told_is k i p c f.0)),
             r.worked,
           );
         }
@@ -161,22 +167,24 @@ module _ {C W : Type 0} (job : W → Option (Job C)) (done : W → Option (Done 
   abbrev May : W → Type 0
   May w = MayRun allowed image kind (job w) (done w)
 
-  pub all_may : (k : ℕ) (is : List Input) (cs : List C) (ws : List W) → map job ws ≡ map Some (jobs_from k is cs) → JobsFit allowed image kind list_kind list_may_fail list_to_come k is cs
-      → All (λ w. done w ≡ None) ws → All May ws
-  all_may k is cs [] e h f = All-nil May
-  all_may k [] cs (w ∷ ws) e h f = absurd (more_than_none (job w) (map job ws) e)
-  all_may k (i ∷ is) [] (w ∷ ws) e h f = absurd h
-  all_may k (i ∷ is) (c ∷ cs) (w ∷ ws) e h f =
+  pub all_may : (k : ℕ) (is : List Input) (ps : List ColumnPart) (cs : List C) (ws : List W) → map job ws ≡ map Some (jobs_from k is ps cs)
+      → JobsFit allowed image kind list_kind list_may_fail list_to_come list_left k is ps cs → All (λ w. done w ≡ None) ws → All May ws
+  all_may k is ps cs [] e h f = All-nil May
+  all_may k [] ps cs (w ∷ ws) e h f = absurd (more_than_none (job w) (map job ws) e)
+  all_may k (i ∷ is) [] cs (w ∷ ws) e h f = absurd h
+  all_may k (i ∷ is) (p ∷ ps) [] (w ∷ ws) e h f = absurd h
+  all_may k (i ∷ is) (p ∷ ps) (c ∷ cs) (w ∷ ws) e h f =
       All-cons May w ws
       (record {
         free = All-head (λ v. done v ≡ None) w ws f;
-        fits = subst (λ o. IfSome o (λ j. JobFits allowed (image (kind j.compressor)) j.column j.input (list_kind j.input.source) (list_may_fail j.input.source) (list_to_come j.input.source)))
-            (sym (same_head (job w) (Some mine) (map job ws) (map Some (jobs_from (suc k) is cs)) e)) h.0;
+        fits = subst (λ o. IfSome o (λ j. JobFits allowed (image (kind j.compressor)) j.column j.input (outset_of j.part)
+            (list_kind j.input.source) (list_may_fail j.input.source) (list_to_come j.input.source) (list_left j.input.source)))
+            (sym (same_head (job w) (Some mine) (map job ws) (map Some (jobs_from (suc k) is ps cs)) e)) h.0;
       })
-      (all_may (suc k) is cs ws (same_tail (job w) (Some mine) (map job ws) (map Some (jobs_from (suc k) is cs)) e) h.1 (All-tail (λ v. done v ≡ None) w ws f))
+      (all_may (suc k) is ps cs ws (same_tail (job w) (Some mine) (map job ws) (map Some (jobs_from (suc k) is ps cs)) e) h.1 (All-tail (λ v. done v ≡ None) w ws f))
     where
       mine : Job C
-      mine = record { column = k; input = i; compressor = c }
+      mine = record { column = k; input = i; part = p; compressor = c }
 
 -- ---- whether all were written
 
@@ -188,17 +196,6 @@ rest_ok (Err e) os h = absurd h
 of_ok : (P : Layout × Vec Path → Type 0) (Q : Type 0) (o : ColumnOutcome) (os : List ColumnOutcome) → IfOk o P → AllOk (o ∷ os) → ((r : Layout × Vec Path) → P r → Q) → Q
 of_ok P Q (Ok r) os h ok f = f r h
 of_ok P Q (Err e) os h ok f = absurd ok
-
--- each column has its number
-abbrev pub AreNumbered : ℕ → List Course → Type 0
-AreNumbered k [] = Unit {0}
-AreNumbered k (x ∷ xs) = (x.number ≡ k) × AreNumbered (suc k) xs
-
-pub are_numbered : {C : Type 0} (image : ℕ → ℕ → ChunkData → ChunkData) (kind : C → ℕ) (to_come : ListSource → Option (List ChunkData)) (k : ℕ) (is : List Input) (cs : List C)
-    → AreNumbered k (courses_of image kind to_come k is cs)
-are_numbered image kind to_come k [] cs = tt
-are_numbered image kind to_come k (i ∷ is) [] = tt
-are_numbered image kind to_come k (i ∷ is) (c ∷ cs) = (refl, are_numbered image kind to_come (suc k) is cs)
 
 abbrev pub writes_in : List Counts → ℕ
 writes_in ns = sum_by (λ (a : Counts). a.writes) ns
@@ -216,22 +213,21 @@ module _ {C : Type 0} (kind faults : C → ℕ) (may : C → ℕ → Type 0) (fi
   abbrev AllDid : List (Row C) → Type 0
   AllDid rs = AllWorked kind faults may first pairs rs
 
-  all_done_step : (p : Plan) (k n : ℕ) (ps : List Plan) (o : ColumnOutcome) (os : List ColumnOutcome) (a : Counts) → n ≡ k
-      → IfOk o (λ r. IsDone p n (layout_data r.0) r.1.items × (a.writes ≡ 0 + length p.pairs)) → AllOk (o ∷ os) → AllDone (suc k) ps os → AllDone k (p ∷ ps) (o ∷ os)
-  all_done_step p k n ps (Ok r) os a e h ok f = (subst (λ z. IsDone p z (layout_data r.0) r.1.items) e h.0, f)
-  all_done_step p k n ps (Err x) os a e h ok f = absurd ok
+  all_done_step : (p : Plan) (ps : List Plan) (o : ColumnOutcome) (os : List ColumnOutcome) (a : Counts) → IfOk o (λ r. IsDone p (layout_data r.0) r.1.items × (a.writes ≡ 0 + length p.pairs))
+      → AllOk (o ∷ os) → AllDone ps os → AllDone (p ∷ ps) (o ∷ os)
+  all_done_step p ps (Ok r) os a h ok f = (h.0, f)
+  all_done_step p ps (Err x) os a h ok f = absurd ok
 
-  pub all_done : (k : ℕ) (rs : List (Row C)) → AreNumbered k (courses_in rs) → AllDid rs → AllOk (outcomes_in rs) → AllDone k (map plan_of (courses_in rs)) (outcomes_in rs)
-  all_done k [] n w ok = tt
-  all_done k (r ∷ rs) n w ok =
-      all_done_step (plan_of r.course) k r.course.number (map plan_of (courses_in rs)) r.done.outcome (outcomes_in rs) r.after n.0 w.0.done ok
-      (all_done (suc k) rs n.1 w.1 (rest_ok r.done.outcome (outcomes_in rs) ok))
+  pub all_done : (rs : List (Row C)) → AllDid rs → AllOk (outcomes_in rs) → AllDone (map plan_of (courses_in rs)) (outcomes_in rs)
+  all_done [] w ok = tt
+  all_done (r ∷ rs) w ok =
+      all_done_step (plan_of r.course) (map plan_of (courses_in rs)) r.done.outcome (outcomes_in rs) r.after w.0.done ok (all_done rs w.1 (rest_ok r.done.outcome (outcomes_in rs) ok))
 
   pub all_clean : (rs : List (Row C)) → AllDid rs → AllOk (outcomes_in rs) → AllClean (courses_in rs)
   all_clean [] w ok = tt
   all_clean (r ∷ rs) w ok =
       let p : Plan = plan_of r.course in
-      let both : (p.faults ≡ []) × Fit p.numbers = of_ok (λ l. IsDone p r.course.number (layout_data l.0) l.1.items × (r.after.writes ≡ 0 + length p.pairs)) ((p.faults ≡ []) × Fit p.numbers)
+      let both : (p.faults ≡ []) × Fit p.numbers = of_ok (λ l. IsDone p (layout_data l.0) l.1.items × (r.after.writes ≡ 0 + length p.pairs)) ((p.faults ≡ []) × Fit p.numbers)
       r.done.outcome (outcomes_in rs) w.0.done ok (λ l h. (h.0.faultless, h.0.fit)) in
       (both.0, both.1, all_clean rs w.1 (rest_ok r.done.outcome (outcomes_in rs) ok))
 
@@ -239,7 +235,7 @@ module _ {C : Type 0} (kind faults : C → ℕ) (may : C → ℕ → Type 0) (fi
   all_counted [] w ok = refl
   all_counted (r ∷ rs) w ok =
       let p : Plan = plan_of r.course in
-      let one : r.after.writes ≡ 0 + length p.pairs = of_ok (λ l. IsDone p r.course.number (layout_data l.0) l.1.items × (r.after.writes ≡ 0 + length p.pairs)) (r.after.writes ≡ 0 + length p.pairs)
+      let one : r.after.writes ≡ 0 + length p.pairs = of_ok (λ l. IsDone p (layout_data l.0) l.1.items × (r.after.writes ≡ 0 + length p.pairs)) (r.after.writes ≡ 0 + length p.pairs)
       r.done.outcome (outcomes_in rs) w.0.done ok (λ l h. h.1) in
       let more = all_counted rs w.1 (rest_ok r.done.outcome (outcomes_in rs) ok) in
       let z : 0 + length p.pairs ≡ length p.pairs = omega arith in

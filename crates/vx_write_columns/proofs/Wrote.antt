@@ -24,11 +24,10 @@ use Rattle.vx_column_plan.specs.Columns.{Column, columns_by}
 use Rattle.vx_column_plan.specs.Shared.{allowed_by, IsWhole, AreSome}
 use Rattle.vx_column_plan.proofs.SharedLaws.{whole_is_planned, history_is_of_plan}
 use Rattle.vx_column_worker.specs.Course.{Course}
-use Rattle.vx_write_answer.specs.declared.error.WriteError.{WriteError}
 use Rattle.vx_write.specs.Written.{Planned, Wrote}
 use Rattle.vx_write_columns.proofs.Told.{stored_length}
 use Rattle.vx_write_columns.specs.Courses.{column_courses}
-use Rattle.vx_write_columns.specs.Shared.{StandsBy, SharedDone, SharedStopped}
+use Rattle.vx_write_columns.specs.Shared.{StandsBy, SharedDone}
 use Rattle.vx_write_columns.proofs.Beside.{all_stand, layouts_are, faults_none, numbers_fit}
 use Rattle.vx_write_columns.proofs.Dispatched.{stands_for}
 
@@ -129,7 +128,3 @@ module _ (s : Setting) (v d : StrategyData) (ws : StrategyList) (m : Bool) (fs :
       → AreSome (source_plan s w (struct fs n) m bs true) (stored (allowed_by p.pairs) rs)
   some_written first next before now rs h =
       subst (λ (z : Plan). AreSome z (stored (allowed_by p.pairs) rs)) (sym same_plan) (history_is_of_plan p rs h.ascend h.listed)
-
-  pub some_stand : (first next : ℕ) (before now : Option (List (List ℕ))) (ys : List Course) (e : WriteError) (h : SharedStopped (allowed_by p.pairs) first next before now ys e)
-      → AreSome (source_plan s w (struct fs n) m bs true) (stored (allowed_by p.pairs) h.history)
-  some_stand first next before now ys e h = some_written first next before now h.history h.stands

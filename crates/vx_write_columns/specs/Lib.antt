@@ -1,5 +1,6 @@
 pub mod Beside
 pub mod Courses
+pub mod Ends
 pub mod Numbers
 pub mod Shared
 pub mod Stopped

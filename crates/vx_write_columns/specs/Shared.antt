@@ -1,5 +1,5 @@
 -- What a write into a shared sink leaves, whatever its columns are.
-use Rattle.std.specs.Prelude.{◌≡◌, ◌⊎◌, ℕ, ◌+◌, ◌^◌, ◌≤◌, max, true, List, [], ◌∷◌, map, length, Option, Some, slice_get}
+use Rattle.std.specs.Prelude.{◌≡◌, ◌⊎◌, ℕ, ◌+◌, ◌^◌, ◌≤◌, max, true, List, [], ◌∷◌, map, length, Option}
 use Rattle.vx_model.specs.Ty.{Ty}
 use Rattle.vx_path.specs.Sort.{sort}
 use Rattle.vx_fault.specs.Told.{then_told}
@@ -9,10 +9,11 @@ use Rattle.vx_order_answer.specs.declared.receipt.Receipt.{Receipt}
 use Rattle.vx_seats.specs.History.{Pair, all_listed, ascends, paths, numbered, stored}
 use Rattle.vx_column_plan.specs.Shared.{number_by}
 use Rattle.vx_column_worker.specs.Course.{Course, plan_of}
-use Rattle.vx_column_worker.specs.Worked.{WorkerCause, SharedPast}
+use Rattle.vx_column_worker.specs.Worked.{SharedPast}
 use Rattle.vx_write_answer.specs.declared.error.WriteError.{WriteError}
 use Rattle.vx_write_answer.specs.declared.error.WriteError.TheVariants.{OutOfMemory}
-use Rattle.vx_write_columns.specs.Numbers.{AllStandIn, IsOwn, layouts_by}
+use Rattle.vx_write_columns.specs.Ends.{End, IsFirstOf}
+use Rattle.vx_write_columns.specs.Numbers.{AllStandIn, layouts_by}
 
 -- A history of some of the pairs, in ascending order: the sink's next number and its segments, where it tells them.
 pub record StandsBy (pairs : List Pair) (first next : ℕ) (before now : Option (List (List ℕ))) (history : List Receipt) : Type 0 where
@@ -33,15 +34,11 @@ pub record SharedDone (pairs : List Pair) (first next : ℕ) (before now : Optio
   pub history : List Receipt
   pub stands : StandsBy pairs first next before now history
   pub all : paths history ≡ sort (map (λ c. c.path) pairs)
-  pub laid : AllStandIn history 0 (map plan_of xs) → l ≡ struct_layout t rows (layouts_by (number_by first history) 0 (map plan_of xs))
+  pub laid : AllStandIn history (map plan_of xs) → l ≡ struct_layout t rows (layouts_by (number_by first history) (map plan_of xs))
   pub clean : AllClean xs
 
--- the cause of a refusal: memory, or one of the columns, which wasn't stopped by another
-abbrev pub OneCause : ℕ → ℕ → List Course → WriteError → Type 0
-OneCause first pairs xs e = (e ≡ OutOfMemory) ⊎ ((k : ℕ) × (x : Course) × (slice_get xs k ≡ Some x) × IsOwn e × WorkerCause (SharedPast first pairs) x e)
-
--- What stands of a refused write, and why it was refused.
-pub record SharedStopped (pairs : List Pair) (first next : ℕ) (before now : Option (List (List ℕ))) (xs : List Course) (e : WriteError) : Type 0 where
+-- What stands of a refused write, and why it was refused: memory was wanting, or it is the columns' first refusal.
+pub record SharedStopped (pairs : List Pair) (first next : ℕ) (before now : Option (List (List ℕ))) (tells : List End → Type 0) (xs : List Course) (e : WriteError) : Type 0 where
   pub history : List Receipt
   pub stands : StandsBy pairs first next before now history
-  pub cause : OneCause first (length pairs) xs e
+  pub whose : (e ≡ OutOfMemory) ⊎ IsFirstOf (SharedPast first (length pairs)) tells xs e

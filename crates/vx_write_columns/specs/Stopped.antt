@@ -17,6 +17,7 @@ use Rattle.vx_write_answer.specs.declared.error.WriteError.TheVariants.{SourceFa
 use Rattle.vx_write_answer.specs.Causes.{is_source_fault}
 use Rattle.vx_write.specs.Written.{HasCause}
 use Rattle.vx_column_inputs.specs.Reading.{SourceTold}
+use Rattle.vx_column_inputs.specs.Prepared.{SplitStops}
 
 -- a number that doesn't fit 32 bits, and is below the first number and as many as the plan has segments
 abbrev pub IsNumberPast : ℕ → Plan → ℕ → Type 0
@@ -46,8 +47,8 @@ abbrev pub ReadWhole : ℕ → ℕ → (ℕ → Type 0) → (ℕ → Type 0) →
 ReadWhole faults faults_now may must to_come to_come_now = (taken : List ChunkData) × SourceTold faults faults_now may must to_come to_come_now taken true false
 
 -- What stands: segments of the plan of the batches taken, in ascending order of their paths; and the cause. Before the source's end
--- nothing is written, and all that is refused then is the reading.
-pub record ColumnsHalted (s : Setting) (w : StrategyData) (t : Ty) (m : Bool) (passes : List ChunkData → ℕ → Type 0) (first next : ℕ)
+-- nothing is written, and all that is refused then is the reading. `columns` says of the batches taken whose the refusal is.
+pub record ColumnsHalted (s : Setting) (w : StrategyData) (t : Ty) (m : Bool) (passes : List ChunkData → ℕ → Type 0) (columns : List ChunkData → WriteError → Type 0) (first next : ℕ)
     (faults faults_now : ℕ) (may must : ℕ → Type 0) (to_come to_come_now : Option (List ChunkData)) (before now : Option (List (List ℕ))) (e : WriteError) : Type 0 where
   pub taken : List ChunkData
   pub heard : Bool
@@ -61,6 +62,8 @@ pub record ColumnsHalted (s : Setting) (w : StrategyData) (t : Ty) (m : Bool) (p
   -- no segment has a number past 32 bits
   pub last : next ≤ max first (2 ^ 32)
   pub cause : HasColumnsCause t (passes taken) (taken_plan s w t m taken heard) taken first e
+  -- behind the source's end: want of memory, a refusal of all batches before they are written, or that of a column
+  pub whose : heard ≡ true → (e ≡ OutOfMemory) ⊎ SplitStops t taken e ⊎ columns taken e
 
 -- ---- faults
 

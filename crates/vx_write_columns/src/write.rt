@@ -16,7 +16,7 @@ ghost use Rattle.vx_seats.specs.History.{numbered};
 ghost use Rattle.vx_seats.specs.Turns.{NeverFails};
 ghost use Rattle.vx_column_worker.specs.Course.{plan_of};
 ghost use Rattle.vx_column_worker.specs.Jobs.{JobsFit};
-ghost use Rattle.vx_column_worker.specs.Staffed.{IsStaffed, list_kind, list_may_fail, list_to_come};
+ghost use Rattle.vx_column_worker.specs.Staffed.{IsStaffed, list_kind, list_may_fail, list_to_come, list_left};
 ghost use Rattle.vx_write_answer.specs.declared.error.WriteError.TheVariants.{SinkFault, CompressFault, OutOfMemory};
 ghost use Rattle.vx_machine_node.specs.Context.{setting_of};
 ghost use Rattle.vx_write.specs.Written.{Planned, Wrote};
@@ -24,7 +24,8 @@ ghost use Rattle.vx_write.specs.Answer.{SameContext};
 ghost use Rattle.vx_write.specs.ColumnCount.{column_count, columns_of};
 ghost use Rattle.vx_write.specs.Readable.{IsReadable};
 ghost use Rattle.vx_write_columns.specs.Beside.{kind_of, PassesBeside};
-ghost use Rattle.vx_write_columns.specs.Courses.{courses_of};
+ghost use Rattle.vx_write_columns.specs.Courses.{courses_of, FitWithParts};
+ghost use Rattle.vx_write_columns.specs.Ends.{IsFirstRefusal, EndsTell};
 ghost use Rattle.vx_write_columns.specs.Shared.{SharedDone, SharedStopped};
 ghost use Rattle.vx_write_columns.specs.Stopped.{ColumnsHalted, ReadWhole, AllKept, AllCalm, SinkFailed, CompressorFailed, KeptOrFailed, AllKeptOrFailed, Failed, IsBack};
 
@@ -33,6 +34,7 @@ use std::marker::Brand;
 use std::sync::Wait;
 use std::sync::ledger::{Blank, Ledger};
 use std::thread::Threads;
+use vx_column_ids::{ColumnPart, column_parts, give_up_parts};
 use vx_column_inputs::{Columns, Input, prepared};
 use vx_column_layouts::joined;
 use vx_column_worker::{Staff, Worker, dismiss, hire, run_workers};
@@ -83,8 +85,11 @@ pub fn write_columns<
         (is_marked ctx.old) (B.to_come source.old)
         (λ xs p. IsReadable (setting_of ctx.old (C.image (kind_of (map C.kind compressors.items)))) (B.kind source.old) (S.next sink) (segments p) (layout_data r.0))) }
     // After a refusal the segments appended are of the plan of the batches taken, in ascending order, and the error has its cause there.
+    // A column's refusal is the first, in order, that isn't a stop by another's.
     ensures halted { IfErr result (λ r. ColumnsHalted (setting_of ctx.old (C.image (kind_of (map C.kind compressors.items)))) (strategy_data strategy.now) (B.kind source.old)
         (is_marked ctx.old) (PassesBeside (setting_of ctx.old (C.image (kind_of (map C.kind compressors.items)))) (strategy_data strategy.now) (B.kind source.old) (is_marked ctx.old))
+        (IsFirstRefusal (setting_of ctx.old (C.image (kind_of (map C.kind compressors.items)))) (strategy_data strategy.now) (B.kind source.old) (is_marked ctx.old) (S.next sink)
+        (EndsTell (S.faults sink) (S.faults r.1) (S.may_fail sink) C.faults C.may_fail compressors.items r.2.items))
         (S.next sink) (S.next r.1) (B.faults source.old) (B.faults source.new) (B.may_fail source.old) (B.must_fail source.old) (B.to_come source.old) (B.to_come source.new) (S.segments sink) (S.segments r.1) r.0) }
     // A fault is told by the count of the object that failed, and comes where it may.
     ensures read { OnOk result (ReadWhole (B.faults source.old) (B.faults source.new) (B.may_fail source.old) (B.must_fail source.old) (B.to_come source.old) (B.to_come source.new)) }
@@ -150,6 +155,8 @@ fn write_fields<
     ensures halted { IfErr result (λ r. (w : StrategyData) → dispatch w (B.kind source.old) ≡ struct_way fields.now
         → ColumnsHalted (setting_of ctx.now (C.image (kind_of (map C.kind compressors.items)))) w (B.kind source.old)
         (is_marked ctx.now) (PassesBeside (setting_of ctx.now (C.image (kind_of (map C.kind compressors.items)))) w (B.kind source.old) (is_marked ctx.now))
+        (IsFirstRefusal (setting_of ctx.now (C.image (kind_of (map C.kind compressors.items)))) w (B.kind source.old) (is_marked ctx.now) (S.next sink)
+        (EndsTell (S.faults sink) (S.faults r.1) (S.may_fail sink) C.faults C.may_fail compressors.items r.2.items))
         (S.next sink) (S.next r.1) (B.faults source.old) (B.faults source.new) (B.may_fail source.old) (B.must_fail source.old) (B.to_come source.old) (B.to_come source.new) (S.segments sink) (S.segments r.1) r.0) }
     ensures read { OnOk result (ReadWhole (B.faults source.old) (B.faults source.new) (B.may_fail source.old) (B.must_fail source.old) (B.to_come source.old) (B.to_come source.new)) }
     ensures kept { IfOk result (λ r. (S.faults r.1 ≡ S.faults sink) × AllKept C.faults compressors.items r.2.items) }
@@ -225,7 +232,7 @@ fn write_shared<
     blanks: Blanks,
 ) -> Result<(Layout, S, Vec<C>), (WriteError, S, Vec<C>)>
     requires count { (columns_of (ty columns.dtype) ≡ Some (vec_len compressors)) × (vec_len columns.fronts ≡ vec_len compressors) × (vec_len columns.inputs ≡ vec_len compressors)
-        × (P.columns ≡ vec_len compressors) × (0 < vec_len compressors) }
+        × (P.columns ≡ vec_len compressors) × (0 < vec_len compressors) × (vec_len compressors + 1 < 2 ^ 64) }
     requires writes { (blanks.writes.name ≡ W.name) × (blanks.writes.parts ≡ W.parts) × (W.parts ≡ P.columns) }
     requires faults { (blanks.faults.name ≡ F.name) × (blanks.faults.parts ≡ F.parts) × (F.parts ≡ P.columns) }
     requires made { (blanks.made.name ≡ M.name) × (blanks.made.parts ≡ M.parts) × (M.parts ≡ P.columns) }
@@ -233,11 +240,12 @@ fn write_shared<
     requires bytes { (blanks.bytes.name ≡ L.name) × (blanks.bytes.parts ≡ L.parts) × (L.parts ≡ P.columns) }
     requires sink { (S.next sink ≡ P.first) × (S.segments sink ≡ P.told) × (S.faults sink ≡ P.faults) × (S.borrow sink ≡ P.borrow) }
     requires may_fail { (NeverFails P.may_fail → NeverFails (S.may_fail sink)) × (NeverFails (S.may_fail sink) → NeverFails P.may_fail) }
-    requires fits { JobsFit P.pairs C.image C.kind list_kind list_may_fail list_to_come 0 columns.inputs.items compressors.items }
+    requires fits { FitWithParts P.pairs C.image C.kind columns.batches columns.inputs.items compressors.items }
     requires all { sum_by (λ x. length (plan_of x).pairs) (courses_of C.image C.kind list_to_come 0 columns.inputs.items compressors.items) ≡ length P.pairs }
     ensures done { IfOk result (λ r. SharedDone P.pairs (S.next sink) (S.next r.1) (S.segments sink) (S.segments r.1)
         (courses_of C.image C.kind list_to_come 0 columns.inputs.items compressors.items) (ty columns.dtype) columns.rows (layout_data r.0)) }
     ensures stopped { IfErr result (λ r. SharedStopped P.pairs (S.next sink) (S.next r.1) (S.segments sink) (S.segments r.1)
+        (EndsTell (S.faults sink) (S.faults r.1) (S.may_fail sink) C.faults C.may_fail compressors.items r.2.items)
         (courses_of C.image C.kind list_to_come 0 columns.inputs.items compressors.items) r.0) }
     ensures kept { IfOk result (λ r. (S.faults r.1 ≡ S.faults sink) × AllKept C.faults compressors.items r.2.items) }
     ensures failed { IfErr result (λ r. Failed (S.faults sink) (S.faults r.1) (S.may_fail sink) C.faults C.may_fail compressors.items r.2.items r.0) }
@@ -247,20 +255,27 @@ fn write_shared<
     let Columns {
         dtype,
         rows,
+        batches,
         fronts,
         inputs,
     } = columns;
+    let Ok(parts) = column_parts(alloc, batches, compressors.len()) else {
+        return Err((WriteError::OutOfMemory, sink, compressors));
+    };
     match staffed::<S, C, W, F, M, N, L, P>(alloc, fronts, sink, compressors, blanks) {
         Ok((shared, tracker, room, staff)) => {
             write_beside(
-                rt, alloc, gate, shared, tracker, room, inputs, staff, dtype, rows,
+                rt, alloc, gate, shared, tracker, room, inputs, parts, staff, dtype, rows,
             )
         }
-        Err((sink, compressors)) => Err((WriteError::OutOfMemory, sink, compressors)),
+        Err((sink, compressors)) => {
+            give_up_parts(parts);
+            Err((WriteError::OutOfMemory, sink, compressors))
+        }
     }
 }
 
-/// The shared sink and the shared tracker, places for workers, and what each worker is given. All memory is taken here.
+/// The shared sink and the shared tracker, places for workers, and what each worker is given besides its part.
 fn staffed<
     S: SegmentSink,
     C: CompressorPlugin,
@@ -359,27 +374,30 @@ fn write_beside<
     tracker: SharedBytesTracker<L>,
     room: Vec<Worker<C, W, F, M, N, L, P>>,
     inputs: Vec<Input>,
+    parts: Vec<ColumnPart>,
     mut staff: Staff<C, W, F, M, N, L, P>,
     dtype: DType,
     rows: u64,
 ) -> Result<(Layout, S, Vec<C>), (WriteError, S, Vec<C>)>
     requires count { (columns_of (ty dtype) ≡ Some (vec_len inputs)) × (0 < vec_len inputs) × IsStaffed (vec_len inputs) staff.seats staff.bytes staff.compressors }
-    requires parts { (W.parts ≡ vec_len inputs) × (F.parts ≡ vec_len inputs) × (M.parts ≡ vec_len inputs) }
+    requires parts { vec_len parts ≡ vec_len inputs }
+    requires ledgers { (W.parts ≡ vec_len inputs) × (F.parts ≡ vec_len inputs) × (M.parts ≡ vec_len inputs) }
     requires none { All (λ s. (s.writes.amount ≡ 0) × (s.faults.amount ≡ 0) × (s.made.amount ≡ 0) × (s.seen.amount ≡ 0)) staff.seats.items }
     requires room { (vec_len room ≡ 0) × (vec_len inputs ≤ vec_capacity room) }
     requires outcomes { (vec_len staff.outcomes ≡ 0) × (vec_len inputs ≤ vec_capacity staff.outcomes) }
-    requires fits { JobsFit P.pairs C.image C.kind list_kind list_may_fail list_to_come 0 inputs.items staff.compressors.items }
+    requires fits { JobsFit P.pairs C.image C.kind list_kind list_may_fail list_to_come list_left 0 inputs.items parts.items staff.compressors.items }
     requires all { sum_by (λ x. length (plan_of x).pairs) (courses_of C.image C.kind list_to_come 0 inputs.items staff.compressors.items) ≡ length P.pairs }
     ensures done { IfOk result (λ r. SharedDone P.pairs P.first (S.next r.1) P.told (S.segments r.1)
         (courses_of C.image C.kind list_to_come 0 inputs.items staff.compressors.items) (ty dtype) rows (layout_data r.0)) }
     ensures stopped { IfErr result (λ r. SharedStopped P.pairs P.first (S.next r.1) P.told (S.segments r.1)
+        (EndsTell P.faults (S.faults r.1) P.may_fail C.faults C.may_fail staff.compressors.items r.2.items)
         (courses_of C.image C.kind list_to_come 0 inputs.items staff.compressors.items) r.0) }
     ensures kept { IfOk result (λ r. (S.faults r.1 ≡ P.faults) × AllKept C.faults staff.compressors.items r.2.items) }
     ensures failed { IfErr result (λ r. Failed P.faults (S.faults r.1) P.may_fail C.faults C.may_fail staff.compressors.items r.2.items r.0) }
     ensures back { IfOk result (λ r. (S.borrow r.1 ≡ P.borrow) × (map C.kind r.2.items ≡ map C.kind staff.compressors.items)) }
     ensures back_refused { IfErr result (λ r. (S.borrow r.1 ≡ P.borrow) × (map C.kind r.2.items ≡ map C.kind staff.compressors.items)) }
 {
-    let mut workers = hire(room, inputs, &mut staff);
+    let mut workers = hire(room, inputs, parts, &mut staff);
     run_workers(rt, alloc, gate, &shared, &tracker, &mut workers);
     dismiss(workers, &mut staff);
     let Staff {

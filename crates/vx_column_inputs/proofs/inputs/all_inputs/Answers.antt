@@ -20,13 +20,13 @@ inputs-requires c =
 
 pub returns-clause-made : goal.returns-clause-made
 returns-clause-made c =
-    inputs_made (listed c.args.ctx.now) (allowed_in c.args.ctx.now) source.ghosts.kind faults.ghosts.may_fail source.ghosts.to_come c.args.fields.now.validity.item c.args.fields.now.default.item (field_ways c.args.fields.now.writers.items)
+    inputs_made (listed c.args.ctx.now) (allowed_in c.args.ctx.now) source.ghosts.kind faults.ghosts.may_fail source.ghosts.to_come source.ghosts.left c.args.fields.now.validity.item c.args.fields.now.default.item (field_ways c.args.fields.now.writers.items)
     (ty c.args.dtype.now) (is_marked c.args.ctx.now) c.args.count c.args.batches.items (map column_of c.in_ok-ways.ways.items) (map (λ x. x.items) c.in_ok-split.split.items) c.in_ok-inputs.inputs.items c.requires.count
     (c.in_ok-ways.ensures ∙ ap (columns_in (struct_way c.args.fields.now) (ty c.args.dtype.now)) c.has_nullable_ancestor.ensures) c.in_ok-split.ensures.columns c.in_ok-inputs.ensures
 
 pub returns-clause-count : goal.returns-clause-count
 returns-clause-count c =
     let many : length c.in_ok-inputs.inputs.items ≡ c.args.count =
-    inputs_many (listed c.args.ctx.now) (allowed_in c.args.ctx.now) source.ghosts.kind faults.ghosts.may_fail source.ghosts.to_come c.args.fields.now.validity.item c.args.fields.now.default.item (field_ways c.args.fields.now.writers.items)
+    inputs_many (listed c.args.ctx.now) (allowed_in c.args.ctx.now) source.ghosts.kind faults.ghosts.may_fail source.ghosts.to_come source.ghosts.left c.args.fields.now.validity.item c.args.fields.now.default.item (field_ways c.args.fields.now.writers.items)
     (ty c.args.dtype.now) (is_marked c.args.ctx.now) c.args.count c.args.batches.items c.in_ok-inputs.inputs.items c.requires.count (returns-clause-made c) in
     omega (arith, many, c.in_ok-inputs.inputs.ok.0)

@@ -9,5 +9,5 @@ use Rattle.vx_column_inputs.proofs.inputs.inputs.Goals as goal
 
 pub returns : goal.returns
 returns c =
-    made_all (listed c.args.ctx.now) (allowed_in c.args.ctx.now) source.ghosts.kind faults.ghosts.may_fail source.ghosts.to_come (is_marked c.args.ctx.now) (into_iter_items c.columns.ways) (into_iter_items c.columns.chunks-iterator)
+    made_all (listed c.args.ctx.now) (allowed_in c.args.ctx.now) source.ghosts.kind faults.ghosts.may_fail source.ghosts.to_come source.ghosts.left (is_marked c.args.ctx.now) (into_iter_items c.columns.ways) (into_iter_items c.columns.chunks-iterator)
     (map column_of c.args.ways.items) (map (λ x. x.items) c.args.split.items) c.columns.inputs.items (omega (arith, c.in-None.ensures.steps.0, c.columns.chunks-iterator.rest.ok.0)) c.columns.invariant.fit c.columns.invariant.made

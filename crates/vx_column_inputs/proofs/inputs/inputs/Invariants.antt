@@ -1,4 +1,4 @@
-use Rattle.std.proofs.Common.{◌≡◌, ◌++◌, List, map}
+use Rattle.std.proofs.Common.{◌++◌, List, map}
 use Rattle.std.specs.Vec.Iter.{into_iter_items}
 use Rattle.vx_sink.specs.ContextView.{is_marked, listed, allowed_in}
 use Rattle.vx_sink.specs.contracts.list_source.ListSourceBatchSource.TheImpl as source
@@ -12,6 +12,6 @@ abbrev pub invariant-columns : goal.invariant-columns
 invariant-columns l = record {
   fit : FitColumns (is_marked l.ctx) (map column_of (into_iter_items l.ways)) (map (λ c. c.items) (into_iter_items l.chunks-iterator));
   made : (is : List Input)
-      → AreOwnInputs (listed l.ctx) (allowed_in l.ctx) source.ghosts.kind faults.ghosts.may_fail source.ghosts.to_come (map column_of (into_iter_items l.ways)) (map (λ c. c.items) (into_iter_items l.chunks-iterator)) is
-      → AreOwnInputs (listed l.ctx) (allowed_in l.ctx) source.ghosts.kind faults.ghosts.may_fail source.ghosts.to_come (map column_of l.fn.ways.items) (map (λ c. c.items) l.fn.split.items) (l.inputs.items ++ is);
+      → AreOwnInputs (listed l.ctx) (allowed_in l.ctx) source.ghosts.kind faults.ghosts.may_fail source.ghosts.to_come source.ghosts.left (map column_of (into_iter_items l.ways)) (map (λ c. c.items) (into_iter_items l.chunks-iterator)) is
+      → AreOwnInputs (listed l.ctx) (allowed_in l.ctx) source.ghosts.kind faults.ghosts.may_fail source.ghosts.to_come source.ghosts.left (map column_of l.fn.ways.items) (map (λ c. c.items) l.fn.split.items) (l.inputs.items ++ is);
 }

@@ -1,6 +1,5 @@
-use Rattle.std.proofs.Common.{◌≡◌, [], inl, inr, ap, sym, subst, ◌∙◌}
+use Rattle.std.proofs.Common.{[], inl, inr, ap, sym, subst, ◌∙◌}
 use Rattle.std.proofs.lemmas.Result.{err_from_is_err_and}
-use Rattle.vx_model.specs.TyView.{ty}
 use Rattle.vx_strategy.specs.NodeViews.{struct_way}
 use Rattle.vx_plan.specs.Valid.{OfSchema, AllOf}
 use Rattle.vx_sink.specs.ContextView.{is_marked, listed, allowed_in}
@@ -44,6 +43,6 @@ returns-clause-read g c = (
   c.in_ok-batches.batches.items,
   c.in_ok-batches.ensures.read,
   subst
-      (λ t. ArePrepared (listed c.args.ctx.now) (allowed_in c.args.ctx.now) source.ghosts.kind faults.ghosts.may_fail source.ghosts.to_come t c.in_ok-batches.batches.items (columns_in (struct_way c.args.fields.now) t (is_marked c.args.ctx.now)) c.args.count
+      (λ t. ArePrepared (listed c.args.ctx.now) (allowed_in c.args.ctx.now) source.ghosts.kind faults.ghosts.may_fail source.ghosts.to_come source.ghosts.left t c.in_ok-batches.batches.items (columns_in (struct_way c.args.fields.now) t (is_marked c.args.ctx.now)) c.args.count
       c.in_ok-columns.columns) (c.in_ok-dtype.ensures.cases ∙ c.dtype.ensures) c.in_ok-columns.ensures.split,
 )

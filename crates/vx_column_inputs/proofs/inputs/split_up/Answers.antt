@@ -1,4 +1,4 @@
-use Rattle.std.proofs.Common.{◌≡◌, ◌<◌, ◌^◌, ℕ, length, refl, ap, ◌∙◌, subst, arith}
+use Rattle.std.proofs.Common.{◌≡◌, ◌<◌, ◌^◌, length, refl, ap, ◌∙◌, subst, arith}
 use Rattle.std.proofs.lemmas.Result.{err_from_is_err_and}
 use Rattle.vx_model.specs.TyView.{ty}
 use Rattle.vx_plan.specs.PlanData.{row_total}
@@ -28,6 +28,7 @@ returns-clause-split c =
       fit = counts_fit c.args.batches.items c.in-Ok.rows c.args.count rows (omega arith) few small;
       type_is = refl;
       rows_are = rows;
+      batches_are = c.len-taken.ensures ∙ c.args.batches.ok.0;
       fronts_are = c.in_ok-fronts.ensures;
       inputs_are = c.in_ok-inputs.ensures.made;
     }

@@ -1,6 +1,5 @@
-use Rattle.std.proofs.Common.{◌≡◌, ◌∷◌, ◌++◌, [], ◌∙◌, sym, subst}
+use Rattle.std.proofs.Common.{◌∷◌, ◌++◌, [], ◌∙◌, sym, subst}
 use Rattle.std.proofs.lemmas.Result.{err_from_is_err_and}
-use Rattle.vx_model.specs.Ty.{Ty}
 use Rattle.vx_column_inputs.proofs.Answering.{HasGiven, batch_given, call_stops, no_room}
 use Rattle.vx_column_inputs.proofs.reading.read_all.Goals as goal
 

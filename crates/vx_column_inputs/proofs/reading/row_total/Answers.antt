@@ -1,6 +1,5 @@
-use Rattle.std.proofs.Common.{◌≡◌, ◌+◌, ◌<◌, ℕ, length, ap, ◌∙◌, arith, subst, sym}
+use Rattle.std.proofs.Common.{◌+◌, ap, ◌∙◌, subst, sym}
 use Rattle.std.proofs.lemmas.Result.{err_from_is_err_and}
-use Rattle.vx_model.specs.ChunkData.{cells}
 use Rattle.vx_column_inputs.proofs.Rows.{Counted, counted_more, counted_past, all_counted}
 use Rattle.vx_column_inputs.proofs.reading.row_total.Goals as goal
 

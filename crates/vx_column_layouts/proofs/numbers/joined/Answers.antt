@@ -15,4 +15,4 @@ returns-clause-laid c = λ first ps done stands.
     laid_by (ty c.args.dtype) c.args.rows c.args.outcomes.len (map layout_data c.in_ok-layouts.layouts.items) c.in-Ok.fields c.requires.count
     (length-map c.in_ok-layouts.layouts.items layout_data ∙ many) c.in-Ok.ensures.made
     ∙ ap (struct_layout (ty c.args.dtype) c.args.rows)
-    (c.in_ok-layouts.ensures.laid first ps done (subst (λ h. AllStandIn h 0 ps) (sym c.as_slice.ensures.value) stands) ∙ ap (λ h. layouts_by (number_by first h) 0 ps) c.as_slice.ensures.value)
+    (c.in_ok-layouts.ensures.laid first ps done (subst (λ h. AllStandIn h ps) (sym c.as_slice.ensures.value) stands) ∙ ap (λ h. layouts_by (number_by first h) ps) c.as_slice.ensures.value)

@@ -3,7 +3,6 @@ use Rattle.std.proofs.lemmas.Result.{IfOk-weaker}
 use Rattle.vx_layout_spec.specs.LayoutTree.{renamed}
 use Rattle.vx_layout_tree.specs.LayoutView.{layout_data, number}
 use Rattle.vx_plan.specs.PlanData.{Plan}
-use Rattle.vx_moved_plans.specs.Moved.{at_column}
 use Rattle.vx_column_plan.specs.Shared.{number_by}
 use Rattle.vx_column_machine.specs.Causes.{IsDone}
 use Rattle.vx_renumber.specs.Numbers.{number_at}
@@ -14,9 +13,8 @@ use Rattle.vx_column_layouts.proofs.numbers.numbered.Goals as goal
 pub returns : goal.returns
 returns c =
     IfOk-weaker c.renumbered.result (λ l. layout_data l ≡ renamed (number_at (map number c.as_slice.result.now)) (layout_data c.args.layout.now))
-    (λ l. (first k : ℕ) (p : Plan) → IsDone p k (layout_data c.args.layout.now) c.args.paths.now → StandsIn c.args.history.now k p
-    → layout_data l ≡ renamed (λ path. number_by first c.args.history.now (at_column k path)) p.layout)
-    (λ l same first k p done stands.
-    numbered_is c.args.history.now first k p (layout_data c.args.layout.now) c.args.paths.now done stands (layout_data l) (map number c.as_slice.result.now)
+    (λ l. (first : ℕ) (p : Plan) → IsDone p (layout_data c.args.layout.now) c.args.paths.now → StandsIn c.args.history.now p → layout_data l ≡ renamed (number_by first c.args.history.now) p.layout)
+    (λ l same first p done stands.
+    numbered_is c.args.history.now first p (layout_data c.args.layout.now) c.args.paths.now done stands (layout_data l) (map number c.as_slice.result.now)
     (λ all. ap (map number) c.as_slice.ensures.value ∙ c.in_ok-numbers.ensures first all) same)
     c.renumbered.ensures

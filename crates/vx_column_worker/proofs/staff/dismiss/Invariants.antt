@@ -1,6 +1,6 @@
 use Rattle.std.specs.Prelude.{◌≡◌, ◌+◌, ◌≤◌, ◌++◌, None, Some, IsSome, All, map, reverse, option_map, vec_len}
 use Rattle.std.specs.Vec.{vec_capacity}
-use Rattle.vx_column_worker.specs.Staffed.{IsStaffed, HasRoom}
+use Rattle.vx_column_worker.specs.Staffed.{HasRoom}
 use Rattle.vx_column_worker.proofs.staff.dismiss.Given as goal
 
 abbrev pub invariant-dismissed : goal.invariant-dismissed

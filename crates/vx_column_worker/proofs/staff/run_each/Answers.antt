@@ -2,7 +2,7 @@ use Rattle.std.proofs.Common.{sym, subst}
 use denote.Exit.{no}
 use denote.Param.Send.{arg_send, param_send}
 use Rattle.vx_column_worker.specs.Staffed.{MayRun}
-use Rattle.vx_column_worker.proofs.Crossing.{worker_sends, sink_syncs, tracker_syncs}
+use Rattle.vx_column_worker.proofs.Crossing.{worker_sends}
 use Rattle.vx_column_worker.proofs.staff.run_each.Goals as goal
 
 pub for_each_mut-requires-clause-accepts : goal.for_each_mut-requires-clause-accepts

@@ -6,15 +6,15 @@ use Rattle.vx_column_worker.proofs.steps.steps.Goals as goal
 pub turn-requires-clause-at_work : goal.turn-requires-clause-at_work
 turn-requires-clause-at_work g c =
     let a = c.requires.at_work in
-    (a.0, as_kind g.B.BatchSource.to_come g.B.BatchSource.kind g.P.Pairs.pairs g.D.CompressorPlugin.image (g.D.CompressorPlugin.kind c.args.compressor.now) (g.D.CompressorPlugin.kind c.steps.compressor) a.0 c.steps.machine (sym c.steps.invariant.kind) (c.steps.invariant.at_work a.0 a.1))
+    (a.0, as_kind g.B.BatchSource.to_come g.B.BatchSource.kind g.B.BatchSource.left g.P.Pairs.pairs g.D.CompressorPlugin.image (g.D.CompressorPlugin.kind c.args.compressor.now) (g.D.CompressorPlugin.kind c.steps.compressor) a.0 c.steps.machine (sym c.steps.invariant.kind) (c.steps.invariant.at_work a.0 a.1))
 
 pub steps-preserved : goal.steps-preserved
 steps-preserved g c = record {
   goes = search rules;
   balance = c.in-Ok.ensures.balance;
   at_work = λ x w.
-      as_kind g.B.BatchSource.to_come g.B.BatchSource.kind g.P.Pairs.pairs g.D.CompressorPlugin.image (g.D.CompressorPlugin.kind c.steps.compressor) (g.D.CompressorPlugin.kind c.args.compressor.now) x c.turn.new.machine c.steps.invariant.kind
-      (c.in-Ok.ensures.at_work x (as_kind g.B.BatchSource.to_come g.B.BatchSource.kind g.P.Pairs.pairs g.D.CompressorPlugin.image (g.D.CompressorPlugin.kind c.args.compressor.now) (g.D.CompressorPlugin.kind c.steps.compressor) x c.steps.machine (sym c.steps.invariant.kind) (c.steps.invariant.at_work x w)));
+      as_kind g.B.BatchSource.to_come g.B.BatchSource.kind g.B.BatchSource.left g.P.Pairs.pairs g.D.CompressorPlugin.image (g.D.CompressorPlugin.kind c.steps.compressor) (g.D.CompressorPlugin.kind c.args.compressor.now) x c.turn.new.machine c.steps.invariant.kind
+      (c.in-Ok.ensures.at_work x (as_kind g.B.BatchSource.to_come g.B.BatchSource.kind g.B.BatchSource.left g.P.Pairs.pairs g.D.CompressorPlugin.image (g.D.CompressorPlugin.kind c.args.compressor.now) (g.D.CompressorPlugin.kind c.steps.compressor) x c.steps.machine (sym c.steps.invariant.kind) (c.steps.invariant.at_work x w)));
   writes = let a = c.steps.invariant.writes in let b = c.in-Ok.ensures.writes in omega (arith, a, b);
   column = c.in-Ok.ensures.column ∙ c.steps.invariant.column;
   faults = c.in-Ok.ensures.seat.fault ∙ c.steps.invariant.faults;
@@ -27,7 +27,7 @@ steps-preserved g c = record {
 
 pub returns-in-Err-clause-refused : goal.returns-in-Err-clause-refused
 returns-in-Err-clause-refused g c = λ x w.
-    c.in-Err.ensures.refused x (as_kind g.B.BatchSource.to_come g.B.BatchSource.kind g.P.Pairs.pairs g.D.CompressorPlugin.image (g.D.CompressorPlugin.kind c.args.compressor.now) (g.D.CompressorPlugin.kind c.steps.compressor) x c.steps.machine (sym c.steps.invariant.kind) (c.steps.invariant.at_work x w))
+    c.in-Err.ensures.refused x (as_kind g.B.BatchSource.to_come g.B.BatchSource.kind g.B.BatchSource.left g.P.Pairs.pairs g.D.CompressorPlugin.image (g.D.CompressorPlugin.kind c.args.compressor.now) (g.D.CompressorPlugin.kind c.steps.compressor) x c.steps.machine (sym c.steps.invariant.kind) (c.steps.invariant.at_work x w))
 
 pub returns-in-Err-clause-seat : goal.returns-in-Err-clause-seat
 returns-in-Err-clause-seat g c =

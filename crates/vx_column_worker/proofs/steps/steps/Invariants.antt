@@ -9,8 +9,8 @@ abbrev pub invariant-steps : goal.invariant-steps
 invariant-steps g l = record {
   goes : (goal.iterator-steps g).can_next l.iterator' × (goal.iterator-steps g).is_finite l.iterator';
   balance : InBalance g.B.Fallible.may_fail l.machine;
-  at_work : (x : Course) → AtWork g.B.BatchSource.to_come g.B.BatchSource.kind g.P.Pairs.pairs (g.D.CompressorPlugin.image (g.D.CompressorPlugin.kind l.initial.compressor)) x l.initial.machine
-      → AtWork g.B.BatchSource.to_come g.B.BatchSource.kind g.P.Pairs.pairs (g.D.CompressorPlugin.image (g.D.CompressorPlugin.kind l.initial.compressor)) x l.machine;
+  at_work : (x : Course) → AtWork g.B.BatchSource.to_come g.B.BatchSource.kind g.B.BatchSource.left g.P.Pairs.pairs (g.D.CompressorPlugin.image (g.D.CompressorPlugin.kind l.initial.compressor)) x l.initial.machine
+      → AtWork g.B.BatchSource.to_come g.B.BatchSource.kind g.B.BatchSource.left g.P.Pairs.pairs (g.D.CompressorPlugin.image (g.D.CompressorPlugin.kind l.initial.compressor)) x l.machine;
   writes : l.seat.writes.amount + length l.initial.machine.paths.items ≡ l.initial.seat.writes.amount + length l.machine.paths.items;
   column : l.seat.column ≡ l.initial.seat.column;
   faults : l.seat.faults.amount ≡ l.initial.seat.faults.amount;

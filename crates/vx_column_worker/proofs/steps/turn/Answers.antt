@@ -30,8 +30,8 @@ hand_on-requires g c =
 pub returns-in-Some-clause-at_work : goal.returns-in-Some-clause-at_work
 returns-in-Some-clause-at_work g c =
     let image : ℕ → ChunkData → ChunkData = g.D.CompressorPlugin.image (g.D.CompressorPlugin.kind c.args.compressor.now) in
-    handed_on ((x : Course) → AtWork g.B.BatchSource.to_come g.B.BatchSource.kind g.P.Pairs.pairs image x c.args.machine.now → AtWork g.B.BatchSource.to_come g.B.BatchSource.kind g.P.Pairs.pairs image x c.step.new.self) c.hand_on.result
-    (λ x w. still_at_work g.B.BatchSource.to_come g.B.BatchSource.kind g.P.Pairs.pairs image x c.args.machine.now c.step.new.self c.in_ok-written.ensures.context (c.in_ok-written.ensures.led x) w)
+    handed_on ((x : Course) → AtWork g.B.BatchSource.to_come g.B.BatchSource.kind g.B.BatchSource.left g.P.Pairs.pairs image x c.args.machine.now → AtWork g.B.BatchSource.to_come g.B.BatchSource.kind g.B.BatchSource.left g.P.Pairs.pairs image x c.step.new.self) c.hand_on.result
+    (λ x w. still_at_work g.B.BatchSource.to_come g.B.BatchSource.kind g.B.BatchSource.left g.P.Pairs.pairs image x c.args.machine.now c.step.new.self c.in_ok-written.ensures.context (c.in_ok-written.ensures.led x) w)
 
 pub returns-in-Some-clause-writes : goal.returns-in-Some-clause-writes
 returns-in-Some-clause-writes g c =
@@ -43,7 +43,7 @@ returns-in-Some-clause-writes g c =
 pub returns-in-Some-clause-refused : goal.returns-in-Some-clause-refused
 returns-in-Some-clause-refused g c =
     let image : ℕ → ChunkData → ChunkData = g.D.CompressorPlugin.image (g.D.CompressorPlugin.kind c.args.compressor.now) in
-    handed_cause (SharedPast g.P.Pairs.first (length g.P.Pairs.pairs)) (λ x. AtWork g.B.BatchSource.to_come g.B.BatchSource.kind g.P.Pairs.pairs image x c.args.machine.now) c.hand_on.result c.hand_on.ensures.refused
+    handed_cause (SharedPast g.P.Pairs.first (length g.P.Pairs.pairs)) (λ x. AtWork g.B.BatchSource.to_come g.B.BatchSource.kind g.B.BatchSource.left g.P.Pairs.pairs image x c.args.machine.now) c.hand_on.result c.hand_on.ensures.refused
 
 pub returns-in-Some-clause-pressed : goal.returns-in-Some-clause-pressed
 returns-in-Some-clause-pressed g c =
@@ -53,7 +53,7 @@ returns-in-Some-clause-pressed g c =
 pub returns-in-None-clause-at_work : goal.returns-in-None-clause-at_work
 returns-in-None-clause-at_work g c =
     let image : ℕ → ChunkData → ChunkData = g.D.CompressorPlugin.image (g.D.CompressorPlugin.kind c.args.compressor.now) in
-    λ x w. still_at_work g.B.BatchSource.to_come g.B.BatchSource.kind g.P.Pairs.pairs image x c.args.machine.now c.step.new.self c.in_ok-written.ensures.context (c.in_ok-written.ensures.led x) w
+    λ x w. still_at_work g.B.BatchSource.to_come g.B.BatchSource.kind g.B.BatchSource.left g.P.Pairs.pairs image x c.args.machine.now c.step.new.self c.in_ok-written.ensures.context (c.in_ok-written.ensures.led x) w
 
 pub returns-in-None-clause-writes : goal.returns-in-None-clause-writes
 returns-in-None-clause-writes g c =

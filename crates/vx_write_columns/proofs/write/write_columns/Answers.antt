@@ -38,7 +38,7 @@ pub returns-in-Struct-clause-complete : goal.returns-in-Struct-clause-complete
 returns-in-Struct-clause-complete g c = λ xs told valid calm.
     let at_type : dispatch (strategy_data c.args.strategy.now) (g.B.BatchSource.kind c.args.source.now) ≡ struct_way c.in-Struct.fields = search rules in
     err_both c.write_fields.result _ _ _ (λ r h f still quiet.
-    complete_halted c.anywhere.ensures.moves _ (strategy_data c.args.strategy.now) (g.B.BatchSource.kind c.args.source.now) (is_marked c.args.ctx.now) _ _ _ _ _ _ _ _ _ _ r.0 (h (strategy_data c.args.strategy.now) at_type) _ _ _ _ _ _ _ f
+    complete_halted c.anywhere.ensures.moves _ (strategy_data c.args.strategy.now) (g.B.BatchSource.kind c.args.source.now) (is_marked c.args.ctx.now) _ _ _ _ _ _ _ _ _ _ _ r.0 (h (strategy_data c.args.strategy.now) at_type) _ _ _ _ _ _ _ f
     c.in-Struct.fields.validity.item c.in-Struct.fields.default.item (field_ways c.in-Struct.fields.writers.items) (vec_len c.args.compressors)
     (columns_there (strategy_data c.args.strategy.now) (g.B.BatchSource.kind c.args.source.now) (vec_len c.args.compressors) c.requires.columns) at_type xs told valid calm still quiet)
     c.write_fields.ensures.halted c.write_fields.ensures.failed
@@ -64,13 +64,13 @@ pub returns-in-Ok-Struct-clause-complete : goal.returns-in-Ok-Struct-clause-comp
 returns-in-Ok-Struct-clause-complete g c = λ xs told valid calm.
     let at_type : dispatch (strategy_data c.args.strategy.now) (g.B.BatchSource.kind c.args.source.now) ≡ struct_way c.in-Ok-Struct.fields = search rules in
     err_both c.write_fields-in-Ok-Struct.result _ _ _ (λ r h f still quiet.
-    complete_halted c.anywhere.ensures.moves _ (strategy_data c.args.strategy.now) (g.B.BatchSource.kind c.args.source.now) (is_marked c.args.ctx.now) _ _ _ _ _ _ _ _ _ _ r.0 (h (strategy_data c.args.strategy.now) at_type) _ _ _ _ _ _ _ f
+    complete_halted c.anywhere.ensures.moves _ (strategy_data c.args.strategy.now) (g.B.BatchSource.kind c.args.source.now) (is_marked c.args.ctx.now) _ _ _ _ _ _ _ _ _ _ _ r.0 (h (strategy_data c.args.strategy.now) at_type) _ _ _ _ _ _ _ f
     c.in-Ok-Struct.fields.validity.item c.in-Ok-Struct.fields.default.item (field_ways c.in-Ok-Struct.fields.writers.items) (vec_len c.args.compressors)
     (columns_there (strategy_data c.args.strategy.now) (g.B.BatchSource.kind c.args.source.now) (vec_len c.args.compressors) c.requires.columns) at_type xs told valid calm still quiet)
     c.write_fields-in-Ok-Struct.ensures.halted c.write_fields-in-Ok-Struct.ensures.failed
 
 pub returns-in-Err-clause-halted : goal.returns-in-Err-clause-halted
-returns-in-Err-clause-halted g c = halted_unread _ _ _ _ _ _ _ _ _ _ _ _ _ _ refl refl refl
+returns-in-Err-clause-halted g c = halted_unread _ _ _ _ _ _ _ _ _ _ _ _ _ _ _ refl refl refl
 
 pub returns-in-Err-clause-compressors_told : goal.returns-in-Err-clause-compressors_told
 returns-in-Err-clause-compressors_told g c = all_kept_so _ _ c.args.compressors.items

@@ -6,7 +6,6 @@ use Rattle.vx_model.specs.ChunkData.{ChunkData}
 use Rattle.vx_sequence.specs.Universe.{Active}
 use Rattle.vx_sink.specs.ContextView.{counted}
 use Rattle.vx_desk.specs.DeskView.{universe_of, written_of, kept_of, segments_in}
-use Rattle.vx_moved_plans.specs.Moved.{at_column}
 use Rattle.vx_machine.specs.Pairs.{task_pairs}
 use Rattle.vx_machine.proofs.PairSteps.{all_may}
 use Rattle.vx_machine_node.specs.Context.{setting_of}
@@ -17,7 +16,7 @@ use Rattle.vx_machine.specs.Whole.{machine_ready}
 use Rattle.vx_column_machine.specs.Course.{Course, StandsAt}
 use Rattle.vx_column_machine.specs.Underway.{IsFront}
 use Rattle.vx_column_machine.proofs.Telling.{fed_well, kept_well}
-use Rattle.vx_column_machine.proofs.Stepping.{some_ready, enough, cause_of, led, stands_none, some_active, wrote_on}
+use Rattle.vx_column_machine.proofs.Stepping.{some_ready, cause_of, led, stands_none, some_active, wrote_on}
 use Rattle.vx_column_machine.proofs.column.ColumnMachine.step.Goals as goal
 
 pub step-requires-clause-ready : goal.step-requires-clause-ready
@@ -29,9 +28,7 @@ pub step-requires-clause-allowed : goal.step-requires-clause-allowed
 step-requires-clause-allowed g c = all_may _ (λ p b. tt) (task_pairs c.args.self.now.machine.root)
 
 pub step-requires-clause-enough : goal.step-requires-clause-enough
-step-requires-clause-enough g c =
-    enough c.requires.underway.0 (universe_of c.args.self.now.desk) c.args.self.now.machine c.requires.balance.exact (g.B.BatchSource.to_come c.args.self.now.source) (written_of c.args.self.now.desk)
-    c.args.self.now.paths.items c.requires.underway.2.stands c.courses.ensures.names (g.B.BatchSource.left c.args.self.now.source)
+step-requires-clause-enough g c = c.requires.underway.2.enough
 
 pub returns-in_err-_step-clause-cause : goal.returns-in_err-_step-clause-cause
 returns-in_err-_step-clause-cause g c =
@@ -69,6 +66,7 @@ returns-in_default-clause-led g c = λ x set h.
           c.take-kept.result.items e (sym c.take-kept.result.ok.0 ∙ c.in_default.ensures.cases.0)));
       type_is = c.step.ensures.kind ∙ h.type_is;
       number_is = h.number_is;
+      enough = c.in_ok-_step.ensures.enough;
     }
 
 pub unreachable-requires : goal.unreachable-requires
@@ -90,7 +88,7 @@ unreachable-requires g c =
     let l = led x u m c.requires.balance.exact before w ps h.stands (setting_of c.args.self.now.ctx (g.C.CompressorPlugin.image (g.C.CompressorPlugin.kind c.args.compressor.now))) t now v k d c.step.new.self c.in_ok-_step._step
     (c.in_ok-_step.ensures.leads c.requires.balance.exact) set h.type_is in
     some_active x u m c.requires.balance.exact before w ps h.stands now v k d c.step.new.self c.in_ok-_step._step l c.in_ok-_step.ensures.told.1 c.requires.balance.kept c.writes.ensures
-    c.take-kept.result.items e c.courses.ensures.front c.pop.new.self.items c.in-Some.segment c.in-Some.ensures.items (subst (IsFront u c.args.self.now.column) c.in-None.is c.in_ok-here.ensures)
+    c.take-kept.result.items e c.courses.ensures.front c.pop.new.self.items c.in-Some.segment c.in-Some.ensures.items (subst (IsFront u) c.in-None.is c.in_ok-here.ensures)
 
 pub returns-clause-led : goal.returns-clause-led
 returns-clause-led g c = λ x set h.
@@ -107,15 +105,16 @@ returns-clause-led g c = λ x set h.
     let e : segments_in c.take-kept.result.items ≡ d = ap (λ (z : Vec (Vec ℕ)). segments_in z.items) c.take-kept.ensures.taken in
     let l = led x u m c.requires.balance.exact before w ps h.stands (setting_of c.args.self.now.ctx (g.C.CompressorPlugin.image (g.C.CompressorPlugin.kind c.args.compressor.now))) t now v k d c.step.new.self c.in_ok-_step._step
     (c.in_ok-_step.ensures.leads c.requires.balance.exact) set h.type_is in
-    let f : IsFront u c.args.self.now.column (Some c.in-Some-here.path) = subst (IsFront u c.args.self.now.column) c.in-Some-here.is c.in_ok-here.ensures in
+    let f : IsFront u (Some c.in-Some-here.path) = subst (IsFront u) c.in-Some-here.is c.in_ok-here.ensures in
     record {
       stands = subst (λ z. StandsAt x (machine_of c.step.new.self) now z c.push_reserved.new.self.items) (sym c.take-kept.ensures.written)
           (wrote_on x u m c.requires.balance.exact before w ps h.stands now v k d c.step.new.self c.in_ok-_step._step l c.in_ok-_step.ensures.told.1 c.requires.balance.kept c.writes.ensures
           c.take-kept.result.items e c.courses.ensures.front c.pop.new.self.items c.in-Some.segment c.in-Some.ensures.items
-          c.in-Some-here.path f.0 f.1 f.2 (f.3 ∙ ap (λ n. at_column n f.0) h.number_is) c.push_reserved.new.self.items
+          c.in-Some-here.path f.0 f.1 c.push_reserved.new.self.items
           (c.push_reserved.ensures.items ∙ ap (λ z. z ++ (c.in-Some-here.path ∷ [])) c.reserve.ensures.items)).0;
       type_is = c.step.ensures.kind ∙ h.type_is;
       number_is = h.number_is;
+      enough = c.in_ok-_step.ensures.enough;
     }
 
 pub returns-clause-wrote : goal.returns-clause-wrote
@@ -133,8 +132,8 @@ returns-clause-wrote g c = λ x set h.
     let e : segments_in c.take-kept.result.items ≡ d = ap (λ (z : Vec (Vec ℕ)). segments_in z.items) c.take-kept.ensures.taken in
     let l = led x u m c.requires.balance.exact before w ps h.stands (setting_of c.args.self.now.ctx (g.C.CompressorPlugin.image (g.C.CompressorPlugin.kind c.args.compressor.now))) t now v k d c.step.new.self c.in_ok-_step._step
     (c.in_ok-_step.ensures.leads c.requires.balance.exact) set h.type_is in
-    let f : IsFront u c.args.self.now.column (Some c.in-Some-here.path) = subst (IsFront u c.args.self.now.column) c.in-Some-here.is c.in_ok-here.ensures in
+    let f : IsFront u (Some c.in-Some-here.path) = subst (IsFront u) c.in-Some-here.is c.in_ok-here.ensures in
     (wrote_on x u m c.requires.balance.exact before w ps h.stands now v k d c.step.new.self c.in_ok-_step._step l c.in_ok-_step.ensures.told.1 c.requires.balance.kept c.writes.ensures
     c.take-kept.result.items e c.courses.ensures.front c.pop.new.self.items c.in-Some.segment c.in-Some.ensures.items
-    c.in-Some-here.path f.0 f.1 f.2 (f.3 ∙ ap (λ n. at_column n f.0) h.number_is) c.push_reserved.new.self.items
+    c.in-Some-here.path f.0 f.1 c.push_reserved.new.self.items
     (c.push_reserved.ensures.items ∙ ap (λ z. z ++ (c.in-Some-here.path ∷ [])) c.reserve.ensures.items)).1

@@ -1,6 +1,6 @@
 use Rattle.std.proofs.Common.{refl}
 use Rattle.vx_write_columns.proofs.OneKind.{one_kind}
-use Rattle.vx_bench.proofs.columns.by_columns.Goals as goal
+use Rattle.vx_bench.proofs.columns.divide.Goals as goal
 
 pub write_columns-written-requires-clause-kind : goal.write_columns-written-requires-clause-kind
 write_columns-written-requires-clause-kind g c lifetimes outlive = one_kind (λ c. 0) 0 (λ c. refl) _
