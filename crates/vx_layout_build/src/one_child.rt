@@ -31,12 +31,12 @@ pub(crate) fn two(children: LayoutChildren) -> Result<(OneChild, OneChild), Layo
         (λ e. Fails e (children_needed 2 (layout_kids children))) }
 {
     let has = children.nchildren();
-    match children {
-        LayoutChildren::Owned(layouts) => match take_two(layouts) {
+    match children.into_owned() {
+        Ok(layouts) => match take_two(layouts) {
             Some((first, second)) => Ok((OneChild::Kept(first), OneChild::Kept(second))),
             None => Err(LayoutError::ChildCount { has, needs: 2 }),
         },
-        LayoutChildren::Viewed(viewed) => {
+        Err(viewed) => {
             let (scope, nodes) = viewed.into_parts();
             two_nodes(scope, nodes)
         }
@@ -51,8 +51,8 @@ pub(crate) fn three(children: LayoutChildren) -> Result<(OneChild, OneChild, One
         (λ e. Fails e (children_needed 3 (layout_kids children))) }
 {
     let has = children.nchildren();
-    match children {
-        LayoutChildren::Owned(layouts) => match take_three(layouts) {
+    match children.into_owned() {
+        Ok(layouts) => match take_three(layouts) {
             Some((first, second, third)) => Ok((
                 OneChild::Kept(first),
                 OneChild::Kept(second),
@@ -60,7 +60,7 @@ pub(crate) fn three(children: LayoutChildren) -> Result<(OneChild, OneChild, One
             )),
             None => Err(LayoutError::ChildCount { has, needs: 3 }),
         },
-        LayoutChildren::Viewed(viewed) => {
+        Err(viewed) => {
             let (scope, nodes) = viewed.into_parts();
             three_nodes(scope, nodes)
         }

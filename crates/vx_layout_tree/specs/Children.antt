@@ -1,6 +1,5 @@
 -- The kinds of layouts by name, and the children of a layout.
 use Rattle.std.specs.Prelude.{ℕ, zero, suc, Bool, true, false, List, [], ◌∷◌, Result, Ok, Err}
-use Rattle.vx_model.specs.Ty.{Ty, Named, struct, fields_in}
 use Rattle.vx_layout_spec.specs.Refusal.{Refusal, slot_range}
 use Rattle.vx_layout_spec.specs.LayoutTree.{Kind, flat_kind, chunked_kind, struct_kind, list_kind, dict_kind, zoned_kind, unread_zoned_kind, stats_kind, foreign_kind, refused_kind, LayoutData, layout, row_count}
 use Rattle.vx_layout_tree.specs.declared.kind.LayoutKind.{LayoutKind}

@@ -1,5 +1,5 @@
 -- The layouts that constructors make of parts, and what they refuse first.
-use Rattle.std.specs.Prelude.{ℕ, ◌+◌, ◌-◌, ◌==◌, not, Bool, true, false, if◌then◌else◌, List, [], ◌∷◌, length, map, Option, Some, None, Result, Ok, Err}
+use Rattle.std.specs.Prelude.{ℕ, ◌+◌, ◌-◌, ◌==◌, not, if◌then◌else◌, List, [], ◌∷◌, length, map, Option, Some, None, Result, Ok, Err}
 use Rattle.vx_model.specs.Words.{total_by}
 use Rattle.vx_model.specs.Ty.{Ty, is_list, is_struct, ty_eq}
 use Rattle.vx_layout_spec.specs.Refusal.{Refusal, child_count, child_type, other_rows, no_list, no_struct}

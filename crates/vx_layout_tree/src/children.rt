@@ -1,6 +1,6 @@
 //! The children of a layout: kept, or nodes of bytes that are built when they are asked for.
 
-ghost use Rattle.std.specs.Prelude.{◌≡◌, ◌<◌, length, map};
+ghost use Rattle.std.specs.Prelude.{◌≡◌, ◌<◌, length, map, MatchResult};
 ghost use Rattle.vx_layout_tree.specs.declared.children.LayoutChildren.TheVariants as children_variants;
 ghost use Rattle.vx_layout_tree.specs.Children.{rows_at as rows_of_child};
 ghost use Rattle.vx_layout_tree.specs.LayoutView.{layout_data};
@@ -12,11 +12,21 @@ use vx_layout_bytes::NodeViews;
 use vx_session::Scope;
 
 /// What a chunked or a struct layout has below it.
-#[derive(Drop)]
 #[cycle(layout)]
 pub enum LayoutChildren {
     Owned(Vec<Layout>),
     Viewed(ViewedChildren),
+}
+
+// Written out, as that of `Layout`.
+impl Drop for LayoutChildren {
+    #[cycle(layout)]
+    fn drop(self) {
+        match self {
+            LayoutChildren::Owned(layouts) => drop(layouts),
+            LayoutChildren::Viewed(viewed) => drop(viewed),
+        }
+    }
 }
 
 /// Nodes that stay in their bytes, and what they are built in.
@@ -97,6 +107,16 @@ impl LayoutChildren {
         match self {
             LayoutChildren::Owned(_) => None,
             LayoutChildren::Viewed(viewed) => viewed.nodes.place(idx),
+        }
+    }
+
+    /// The layouts that are kept, or else the nodes. Takes no memory.
+    pub fn into_owned(self) -> Result<Vec<Layout>, ViewedChildren>
+        ensures { MatchResult result (λ v. self ≡ children_variants.Owned v) (λ v. self ≡ children_variants.Viewed v) }
+    {
+        match self {
+            LayoutChildren::Owned(layouts) => Ok(layouts),
+            LayoutChildren::Viewed(viewed) => Err(viewed),
         }
     }
 

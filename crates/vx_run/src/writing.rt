@@ -65,7 +65,7 @@ fn write_by<P: Progress + Drop>(
         &mut compressor,
     ) {
         Ok(written) => Ok((written.layout, sink.into_inner().into_segments())),
-        Err(refused) => match refused.error {
+        Err(refused) => match &refused.error {
             WriteError::OutOfMemory => Err(AllocError),
             _ => unreachable!(),
         },

@@ -4,7 +4,6 @@ use std::marker::Model;
 use std::sync::Arc;
 
 /// A strategy that another holds; its clones share it. Contracts see its tree of nodes, which constructors can make.
-#[derive(Drop)]
 #[cycle(strategy)]
 pub struct ChildStrategy {
     inner: Arc<Strategy>,
@@ -32,6 +31,15 @@ impl Model for ChildStrategy {
     ghost use Rattle.vx_strategy.specs.DepthFalls.{child_falls};
 
     ghost size_decreases = { λ c h. child_falls c.inner.value h };
+}
+
+// Written out, so that whoever drops a strategy makes a call for each that it holds, and no proof goes through its nodes again.
+impl Drop for ChildStrategy {
+    #[cycle(strategy)]
+    fn drop(self) {
+        let ChildStrategy { inner } = self;
+        drop(inner);
+    }
 }
 
 impl ChildStrategy {

@@ -29,8 +29,17 @@ impl ListLayoutStrategy {
         ensures ok { IfOk result (λ s. list_way s ≡ listed default_flat default_flat default_flat default_flat) }
         ensures memory { IfErr result (λ e. e ≡ BuildError.OutOfMemory) }
     {
-        let (elements, offsets) = both_flat(alloc)?;
-        let Ok((validity, fallback)) = both_flat(alloc) else {
+        let flat = FlatLayoutStrategy::default();
+        let (elements, offsets) = ChildStrategy::both_held(
+            alloc,
+            flat.into_strategy(),
+            flat.into_strategy(),
+        )?;
+        let Ok((validity, fallback)) = ChildStrategy::both_held(
+            alloc,
+            flat.into_strategy(),
+            flat.into_strategy(),
+        ) else {
             drop((elements, offsets));
             return Err(BuildError::OutOfMemory);
         };
@@ -164,15 +173,6 @@ impl ListLayoutStrategy {
     {
         Strategy::List(self)
     }
-}
-
-/// Two flat ones.
-fn both_flat(alloc: Global) -> Result<(ChildStrategy, ChildStrategy), AllocError>
-    ensures one { IfOk result (λ p. p.0.item ≡ default_flat) }
-    ensures other { IfOk result (λ p. p.1.item ≡ default_flat) }
-{
-    let flat = FlatLayoutStrategy::default();
-    ChildStrategy::both_held(alloc, flat.into_strategy(), flat.into_strategy())
 }
 
 impl Clone for ListLayoutStrategy {

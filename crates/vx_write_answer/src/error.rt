@@ -9,7 +9,7 @@ use vx_sink::{SinkError, SourceError};
 use vx_split::SplitError;
 
 /// Why a write was refused.
-#[derive(Drop, Error)]
+#[derive(Error)]
 pub enum WriteError {
     /// The source failed; its count of faults says so.
     #[error("the source failed")]
@@ -52,6 +52,28 @@ pub enum WriteError {
     /// Of a column that is written beside others: this one was refused under this name, and the whole write ends.
     #[error("column {0} was refused: {1:?}")]
     Stopped(u64, WriteErrorName),
+}
+
+// Written out, so that whoever drops one makes a call, and no proof goes through its causes again.
+impl Drop for WriteError {
+    fn drop(self) {
+        match self {
+            WriteError::BatchType(chunk) => drop(chunk),
+            WriteError::DuplicateField(name) => drop(name),
+            WriteError::ForbiddenAggregate(id) => drop(id),
+            WriteError::ForbiddenEncoding(id) => drop(id),
+            WriteError::SourceFault
+            | WriteError::SinkFault
+            | WriteError::CompressFault
+            | WriteError::NotStruct
+            | WriteError::ManyChunks
+            | WriteError::EmptyList
+            | WriteError::ZoneCut(_)
+            | WriteError::TooLarge(_)
+            | WriteError::OutOfMemory
+            | WriteError::Stopped(_, _) => {}
+        }
+    }
 }
 
 impl fmt::Debug for WriteError {
