@@ -1,10 +1,13 @@
 //! Writes by columns, against the writes by one machine.
 
-ghost use Rattle.std.specs.Prelude.{◌≡◌, vec_len, IfOk};
+ghost use Rattle.std.specs.Prelude.{◌≡◌, Some, vec_len, IfOk};
+ghost use Rattle.vx_model.specs.TyView.{ty};
+ghost use Rattle.vx_strategy.specs.StrategyView.{strategy_data};
+ghost use Rattle.vx_write.specs.ColumnCount.{column_count};
 
 use crate::columns_jobs::{COMPRESSED, PLAIN, job_of};
 use crate::meeting::Meeting;
-use std::alloc::Global;
+use std::alloc::{AllocError, Global};
 use std::process::Abort;
 use std::sync::Wait;
 use std::test::Fail;
@@ -16,19 +19,37 @@ use vx_layout_tree::Layout;
 use vx_model::{Blob, Text};
 use vx_sink::{LayoutWriterContext, ListSource, MemorySink};
 use vx_table_compressor::TableCompressor;
-use vx_write::{column_count, write_stream};
+use vx_write::{Refused, Written, column_count, write_stream};
 use vx_write_answer::WriteError;
 use vx_write_columns::write_columns;
 
-/// The layout's text and the segments, or the error and those that stand.
+/// The layout and the segments, or the error and those that stand.
+type Divided = (Result<Layout, WriteError>, Vec<Blob>);
+
+/// The same, of the layout its text.
 type Outcome = (Result<Text, WriteError>, Vec<Blob>);
 
-fn text_of(alloc: Global, layout: &Layout) -> Result<Text, Fail> {
-    Ok(layout.display_tree_verbose(alloc, true)?)
+/// The layout is gone where its text is asked for.
+fn shown(alloc: Global, layout: Layout) -> Result<Text, AllocError> {
+    let text = layout.display_tree_verbose(alloc, true);
+    drop(layout);
+    text
+}
+
+fn outcome_of(alloc: Global, divided: Divided) -> Result<Outcome, Fail> {
+    let (written, segments) = divided;
+    match written {
+        Ok(layout) => Ok((Ok(shown(alloc, layout)?), segments)),
+        Err(error) => Ok((Err(error), segments)),
+    }
 }
 
 /// By one machine.
-fn streamed(alloc: Global, job: Job) -> Result<Outcome, Fail> {
+fn streamed(alloc: Global, job: &str) -> Result<Outcome, Fail> {
+    outcome_of(alloc, stream(alloc, job_of(alloc, job)?))
+}
+
+fn stream(alloc: Global, job: Job) -> Divided {
     let faults = job.faults;
     let mut ctx = LayoutWriterContext::new(job.encodings);
     let mut source = ListSource::new(job.schema, job.batches, faults.source);
@@ -43,36 +64,51 @@ fn streamed(alloc: Global, job: Job) -> Result<Outcome, Fail> {
         &job.schedule,
         &mut compressor,
     );
-    let told = match written {
-        Ok(written) => told_of(alloc, Ok(written.layout))?,
-        Err(refused) => Err(refused.error),
-    };
-    Ok((told, sink.into_segments()))
+    (layout_of(written), sink.into_segments())
 }
 
-/// The layout's text, or the error.
-fn told_of(
-    alloc: Global,
-    written: Result<Layout, WriteError>,
-) -> Result<Result<Text, WriteError>, Fail> {
+fn layout_of(written: Result<Written, Refused>) -> Result<Layout, WriteError> {
     match written {
-        Ok(layout) => Ok(Ok(text_of(alloc, &layout)?)),
-        Err(error) => Ok(Err(error)),
+        Ok(written) => Ok(written.layout),
+        Err(refused) => Err(refused.error),
     }
 }
 
 /// By two columns.
-fn by_columns<G: Gate + Sync, R: Threads + Wait + Sync>(
+fn divided<G: Gate + Sync, R: Threads + Wait + Sync>(
+    rt: &R,
+    alloc: Global,
+    job: &str,
+    fail: Vec<u64>,
+    gate: &G,
+) -> Result<Outcome, Fail> {
+    let compressors = two_compressors(alloc)?;
+    let job = job_of_two(alloc, job)?;
+    outcome_of(alloc, divide(rt, alloc, job, fail, compressors, gate))
+}
+
+/// The job of a write by two columns.
+fn job_of_two(alloc: Global, text: &str) -> Result<Job, Fail>
+    ensures { IfOk result (λ j. column_count (strategy_data j.strategy) (ty j.schema) ≡ Some 2) }
+{
+    let job = job_of(alloc, text)?;
+    match column_count(&job.strategy, &job.schema) {
+        Some(2) => Ok(job),
+        _ => Err("a job of two columns".into()),
+    }
+}
+
+fn divide<G: Gate + Sync, R: Threads + Wait + Sync>(
     rt: &R,
     alloc: Global,
     job: Job,
     fail: Vec<u64>,
+    compressors: Vec<TableCompressor>,
     gate: &G,
-) -> Result<Outcome, Fail> {
-    let Some(2) = column_count(&job.strategy, &job.schema) else {
-        return Err("a job of two columns".into());
-    };
-    let compressors = two_compressors(alloc)?;
+) -> Divided
+    requires columns { column_count (strategy_data job.strategy) (ty job.schema) ≡ Some 2 }
+    requires two { vec_len compressors ≡ 2 }
+{
     let faults = job.faults;
     let mut ctx = LayoutWriterContext::new(job.encodings);
     let mut source = ListSource::new(job.schema, job.batches, faults.source);
@@ -87,21 +123,20 @@ fn by_columns<G: Gate + Sync, R: Threads + Wait + Sync>(
         compressors,
         gate,
     );
-    let (told, sink) = match written {
-        Ok((layout, sink, _compressors)) => (Ok(layout), sink),
-        Err((error, sink, _compressors)) => (Err(error), sink),
-    };
-    Ok((told_of(alloc, told)?, sink.into_segments()))
+    parted(written)
 }
 
-fn divided<G: Gate + Sync, R: Threads + Wait + Sync>(
-    rt: &R,
-    alloc: Global,
-    job: &str,
-    fail: Vec<u64>,
-    gate: &G,
-) -> Result<Outcome, Fail> {
-    by_columns(rt, alloc, job_of(alloc, job)?, fail, gate)
+/// What a write by columns gives back.
+type Returned = Result<
+    (Layout, MemorySink, Vec<TableCompressor>),
+    (WriteError, MemorySink, Vec<TableCompressor>),
+>;
+
+fn parted(written: Returned) -> Divided {
+    match written {
+        Ok((layout, sink, _compressors)) => (Ok(layout), sink.into_segments()),
+        Err((error, sink, _compressors)) => (Err(error), sink.into_segments()),
+    }
 }
 
 fn two_compressors(alloc: Global) -> Result<Vec<TableCompressor>, Fail>
@@ -152,7 +187,7 @@ pub(crate) fn two_columns_as_one_machine<R: Abort + Threads + Wait + Sync>(
     rt: &R,
     alloc: Global,
 ) -> Result<(), Fail> {
-    let (is_laid, stored) = laid(streamed(alloc, job_of(alloc, PLAIN)?)?);
+    let (is_laid, stored) = laid(streamed(alloc, PLAIN)?);
     assert!(rt; is_laid);
     let (is_laid, segments) = laid(divided(rt, alloc, PLAIN, Vec::new(alloc), &NoGate)?);
     assert!(rt; is_laid);
@@ -168,7 +203,7 @@ pub(crate) fn a_sink_that_fails<R: Abort + Threads + Wait + Sync>(
 ) -> Result<(), Fail> {
     let fail = vec![in alloc; 1]?;
     let (found, segments) = divided(rt, alloc, PLAIN, fail, &NoGate)?;
-    assert!(rt; matches!(found, Err(WriteError::SinkFault)));
+    assert!(rt; matches!(&found, Err(WriteError::SinkFault)));
     assert!(rt; segments.len() == 1);
     Ok(())
 }

@@ -1,4 +1,3 @@
 pub mod Joining
-pub mod Named
 mod Numbered
 mod Places

@@ -13,14 +13,14 @@ ghost use Rattle.vx_column_ways.specs.ColumnCount.{columns_of};
 ghost use Rattle.vx_column_layouts.specs.Numbers.{AllDone, StandsIn, AllStandIn, AllIn, AllOk, HasOwn, IsFirstOwn, IsLaid, is_stop, layouts_by};
 
 use std::alloc::{AllocError, Global};
-use vx_layout_tree::{Layout, StructLayout, drop_layout};
+use vx_layout_tree::{Layout, StructLayout};
 use vx_model::{DType, SegmentId};
 use vx_order_answer::Receipt;
 use vx_path::owned::{Path, path_le};
 use vx_renumber::renumbered;
 use vx_write_answer::WriteError;
 
-/// What came of a column: its layout, whose segments are places in the list of their paths; or why it was refused.
+/// What came of a column: its layout and the paths of its segments, a node's before its children's; or why it was refused.
 pub type Outcome = Result<(Layout, Vec<Path>), WriteError>;
 
 /// The struct's layout over the columns', each numbered by the history; or the refusal of the first column, in order, that
@@ -92,7 +92,7 @@ fn layout_of(
         }
     };
     let numbered = numbered(alloc, &layout, paths.as_slice(), history);
-    drop_layout(layout);
+    drop(layout);
     Ok(Some(numbered?))
 }
 
@@ -102,7 +102,7 @@ fn is_stop(error: &WriteError) -> bool
     matches!(error, WriteError::Stopped(..))
 }
 
-/// A column's layout, whose segment at each place has the path at that place, with the numbers that the history has at the paths.
+/// A column's layout, whose segments have these paths in its order, with the numbers that the history has at the paths.
 fn numbered(
     alloc: Global,
     layout: &Layout,

@@ -2,6 +2,7 @@ pub mod Begins
 pub mod Leading
 pub mod Writing
 pub mod Refusing
+pub mod Numbering
 pub mod Ending
 pub mod Telling
 pub mod Stepping

@@ -1,27 +1,31 @@
 -- How a column's own write ends, and why it is refused.
 use Rattle.std.specs.Prelude.{◌≡◌, ◌⊎◌, ◌^◌, ◌<◌, ◌≤◌, ℕ, true, List, [], map, length, Result, Ok, Err}
-use Rattle.vx_layout_spec.specs.LayoutTree.{LayoutData, renamed}
+use Rattle.vx_layout_spec.specs.LayoutTree.{LayoutData}
+use Rattle.vx_layout_segments.specs.Segments.{segments_in}
+use Rattle.vx_layout_segment_laws.specs.Named.{SegmentsArePairs}
 use Rattle.vx_tasks.specs.Run.{Note}
-use Rattle.vx_plan.specs.PlanData.{Plan, paths as paths_of, not_struct, duplicate_field, many_chunks, empty_list, zone_cut, forbidden_aggregate, forbidden_encoding}
-use Rattle.vx_plan.specs.Number.{sorted}
+use Rattle.vx_plan.specs.PlanData.{Plan, not_struct, duplicate_field, many_chunks, empty_list, zone_cut, forbidden_aggregate, forbidden_encoding}
+use Rattle.vx_plan.specs.Number.{numbered}
 use Rattle.vx_plan.specs.Valid.{Fit, IsPast, Has}
 use Rattle.vx_fault.specs.Counts.{Rose}
 use Rattle.vx_seats.specs.Turns.{NeverFails}
 use Rattle.vx_machine_promises.specs.Write.{begin_at}
 use Rattle.vx_machine_runs.specs.Tracked.{Comes}
-use Rattle.vx_machine.specs.Progress.{numbers_from}
 use Rattle.vx_write_answer.specs.declared.error.WriteError.{WriteError}
 use Rattle.vx_write_answer.specs.declared.error.WriteError.TheVariants.{SourceFault, SinkFault, CompressFault, BatchType, NotStruct, DuplicateField, ManyChunks, EmptyList, ZoneCut, ForbiddenAggregate, ForbiddenEncoding, TooLarge, OutOfMemory, Stopped}
 use Rattle.vx_column_machine.specs.Course.{Course, write_of, outset_of, plan_of}
 
 -- ---- the end
 
--- All of the column was written by this plan: whatever numbers are given to its paths, place by place, the layout has them.
+-- All of the column was written by this plan. The layout's segments have their numbers in order of path, from 0, and these are their
+-- paths, in the order of the layout.
 pub record IsDone (p : Plan) (l : LayoutData ℕ) (paths : List (List ℕ)) : Type 0 where
   pub faultless : p.faults ≡ []
   pub fit : Fit p.numbers
-  pub laid : (number : List ℕ → ℕ) → map (λ q. number q.0) (sorted p.pairs) ≡ numbers_from 0 (length p.pairs) → l ≡ renamed number p.layout
-  pub paths_are : paths ≡ paths_of (sorted p.pairs)
+  pub laid : l ≡ numbered p 0
+  pub paths_are : paths ≡ segments_in p.layout
+  -- they are those of all that is written
+  pub named : SegmentsArePairs p
 
 -- ---- refusals
 

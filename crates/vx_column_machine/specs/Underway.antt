@@ -1,6 +1,7 @@
 -- What a column's machine holds, and where it stands.
-use Rattle.std.specs.Prelude.{◌≡◌, ℕ, Bool, ◌++◌, ◌∷◌, List, [], Option, Some, None}
+use Rattle.std.specs.Prelude.{◌≡◌, ◌≤◌, ℕ, Bool, ◌++◌, ◌∷◌, List, [], Option, Some, None, vec_len}
 use Rattle.std.specs.Global.{Vec}
+use Rattle.std.specs.Vec.{vec_capacity}
 use Rattle.std.specs.FinMap as map
 use Rattle.vx_model.specs.Ty.{Ty}
 use Rattle.vx_model.specs.ChunkData.{ChunkData}
@@ -22,13 +23,16 @@ use Rattle.vx_machine.specs.Whole.{machine_stock, machine_reserved}
 use Rattle.vx_column_machine.specs.declared.column.ColumnMachine.{ColumnMachine}
 use Rattle.vx_column_machine.specs.Course.{Course, outset_of, plan_of, StandsAt}
 
--- The machine holds all that is active, its tracker counts what it has reserved, no segment waits, and the source never fails.
+-- The machine holds all that is active, its tracker counts what it has reserved, no segment waits, the source never fails, and there is
+-- room for the paths in another order.
 pub record InBalance {B : Type 0} (may_fail : B → ℕ → Type 0) (c : ColumnMachine B) : Type 0 where
   pub owned : Owned (universe_of c.desk) (machine_stock c.machine)
   pub exact : Exact (universe_of c.desk) (machine_stock c.machine)
   pub counts : counted c.ctx ≡ machine_reserved c.machine
   pub kept : kept_of c.desk ≡ []
   pub steady : NeverFails (may_fail c.source)
+  pub unordered : vec_len c.ordered ≡ 0
+  pub room : vec_len c.paths ≤ vec_capacity c.ordered
 
 -- It has come so far with this column, and holds an id for each chunk that its source has left.
 pub record Underway {B : Type 0} (to_come : B → Option (List ChunkData)) (kind : B → Ty) (left : B → ℕ) (x : Course) (c : ColumnMachine B) : Type 0 where

@@ -1,6 +1,7 @@
 //! A column's own machine, step by step.
 
-ghost use Rattle.std.specs.Prelude.{◌≡◌, ◌≤◌, false, true, [], vec_len, IsTrue, IfOk, IfErr, OnOk};
+ghost use Rattle.std.specs.Prelude.{◌≡◌, ◌≤◌, ◌<◌, ◌+◌, false, true, [], length, vec_len, IsTrue, IfOk, IfErr, OnOk};
+ghost use Rattle.std.specs.Vec.{vec_capacity};
 ghost use Rattle.vx_model.specs.TyView.{ty};
 ghost use Rattle.vx_seats.specs.Turns.{NeverFails};
 ghost use Rattle.vx_strategy.specs.StrategyView.{strategy_data};
@@ -20,6 +21,7 @@ ghost use Rattle.vx_column_machine.specs.Causes.{IsDone, HasCause, StepPressed};
 use std::alloc::{AllocError, Global};
 use vx_column_ids::ColumnPart;
 use vx_desk::Desk;
+use vx_layout_paths::paths_in_order;
 use vx_layout_tree::Layout;
 use vx_machine::Machine;
 use vx_path::owned::Path;
@@ -27,8 +29,8 @@ use vx_sink::{BatchSource, CompressorPlugin, LayoutWriterContext};
 use vx_strategy::Strategy;
 use vx_write_answer::WriteError;
 
-/// A column of a struct that is written by itself, at the ids that the struct's node makes for it. Its segments are handed out, and
-/// their numbers in its layout are places in the list of their paths.
+/// A column of a struct that is written by itself, at the ids that the struct's node makes for it. Its segments are handed out; in its
+/// layout they have their numbers in order of path, from 0.
 ///
 /// It must be spent, by `finish_with_paths` or `refuse`.
 pub struct ColumnMachine<B> {
@@ -39,6 +41,8 @@ pub struct ColumnMachine<B> {
     source: B,
     ctx: LayoutWriterContext,
     paths: Vec<Path>,
+    // Empty, with room for all of them.
+    ordered: Vec<Path>,
 }
 
 impl<B: BatchSource + Drop> ColumnMachine<B> {
@@ -76,6 +80,8 @@ impl<B: BatchSource + Drop> ColumnMachine<B> {
             ids,
             eof,
         )?;
+        let paths = Vec::new(alloc);
+        let ordered = Vec::new(alloc);
         Ok(ColumnMachine {
             alloc,
             column,
@@ -83,7 +89,8 @@ impl<B: BatchSource + Drop> ColumnMachine<B> {
             desk,
             source,
             ctx,
-            paths: Vec::new(alloc),
+            paths,
+            ordered,
         })
     }
 
@@ -140,7 +147,7 @@ impl<B: BatchSource + Drop> ColumnMachine<B> {
         vx_machine_runs::courses();
         vx_machine_runs::course_ends();
         let here = self.front()?;
-        self.paths.reserve(1)?;
+        make_room(&mut self.paths, &mut self.ordered)?;
         let _step = self.machine.step(
             0,
             &mut self.ctx,
@@ -160,11 +167,16 @@ impl<B: BatchSource + Drop> ColumnMachine<B> {
         Ok(Some(segment))
     }
 
-    /// The layout, and the paths of its segments.
-    pub fn finish_with_paths(self) -> (Layout, Vec<Path>)
+    /// The layout, and the paths of its segments in its order, a node's before its children's. It takes no memory: each step made room.
+    ///
+    /// A layout that is written keeps its children, but its type would let them stay in their bytes: of such it would answer that memory
+    /// is wanting.
+    pub fn finish_with_paths(self) -> Result<(Layout, Vec<Path>), AllocError>
         requires done { IsTrue (is_finished self.machine) × (has_finished (machine_of self.machine) ≡ true) }
-        ensures done { (x : Course) → Underway B.to_come B.kind B.left x self → IsDone (plan_of x) (layout_data result.0) result.1.items }
-        ensures paths { result.1.items ≡ self.paths.items }
+        requires balance { InBalance B.may_fail self }
+        requires underway { (x : Course) × Underway B.to_come B.kind B.left x self }
+        ensures done { IfOk result (λ r. (x : Course) → Underway B.to_come B.kind B.left x self → IsDone (plan_of x) (layout_data r.0) r.1.items) }
+        ensures count { IfOk result (λ r. length r.1.items ≡ length self.paths.items) }
     {
         vx_machine_runs::course_ends();
         vx_machine_runs::course_counts();
@@ -176,8 +188,14 @@ impl<B: BatchSource + Drop> ColumnMachine<B> {
             source: _source,
             ctx: _ctx,
             paths,
+            ordered,
         } = self;
-        (machine.finish(), paths)
+        let layout = machine.finish();
+        let Ok(in_order) = paths_in_order(&layout, paths, ordered) else {
+            drop(layout);
+            return Err(AllocError);
+        };
+        Ok((layout, in_order))
     }
 
     /// Gives all up that it holds.
@@ -192,7 +210,21 @@ impl<B: BatchSource + Drop> ColumnMachine<B> {
             source: _source,
             mut ctx,
             paths: _paths,
+            ordered: _ordered,
         } = self;
         machine.refuse(&mut ctx, &mut desk);
     }
+}
+
+/// Makes room for one path more, and for as many in another order.
+fn make_room(paths: &mut Vec<Path>, ordered: &mut Vec<Path>) -> Result<(), AllocError>
+    ensures same { paths.new.items ≡ paths.old.items }
+    ensures count { vec_len paths.new ≡ vec_len paths.old }
+    ensures count_ordered { vec_len ordered.new ≡ vec_len ordered.old }
+    ensures kept { vec_capacity ordered.old ≤ vec_capacity ordered.new }
+    ensures room { OnOk result (vec_len paths.new < vec_capacity paths.new) }
+    ensures room_ordered { OnOk result (vec_len ordered.new + vec_len paths.new + 1 ≤ vec_capacity ordered.new) }
+{
+    paths.reserve(1)?;
+    ordered.reserve(paths.capacity())
 }

@@ -1,17 +1,16 @@
 -- What a worker's end comes to.
-use Rattle.std.proofs.Common.{◌≡◌, ◌∙◌, ◌+◌, ◌∷◌, ℕ, suc, List, [], length, refl, ap, arith, Option, Result, Ok, Err}
+use Rattle.std.proofs.Common.{◌≡◌, ◌∙◌, ◌+◌, ◌∷◌, ℕ, List, [], length, ap, arith, Option, Result, Ok, Err}
 use Rattle.std.proofs.lemmas.Result.{IfErr-weaker}
 use Rattle.std.specs.Prelude.{IfOk, IfErr}
 use Rattle.std.specs.Global.{Vec}
 use Rattle.vx_model.specs.Ty.{Ty}
 use Rattle.vx_model.specs.ChunkData.{ChunkData}
-use Rattle.vx_path.proofs.Sort.{length-sort_by}
 use Rattle.vx_layout_spec.specs.LayoutTree.{LayoutData}
 use Rattle.vx_layout_tree.specs.declared.layout.Layout.{Layout}
 use Rattle.vx_layout_tree.specs.LayoutView.{layout_data}
+use Rattle.vx_layout_segment_laws.proofs.Places.{pairs_named_once}
 use Rattle.vx_seats.specs.History as seats
-use Rattle.vx_plan.specs.PlanData.{Pair, Plan, paths}
-use Rattle.vx_plan.specs.Number.{path_of, sorted}
+use Rattle.vx_plan.specs.PlanData.{Plan}
 use Rattle.vx_write_answer.specs.declared.error.WriteError.{WriteError}
 use Rattle.vx_column_machine.specs.declared.column.ColumnMachine.{ColumnMachine}
 use Rattle.vx_column_machine.specs.Course.{Course, plan_of}
@@ -21,13 +20,9 @@ use Rattle.vx_column_worker.specs.Worked.{WorkerCause}
 
 -- ---- all was written
 
-paths_long : (ps : List Pair) → length (paths ps) ≡ length ps
-paths_long [] = refl
-paths_long (p ∷ ps) = ap suc (paths_long ps)
-
 module _ (p : Plan) (l : LayoutData ℕ) (at : List (List ℕ)) (d : IsDone p l at) where
   many : length at ≡ length p.pairs
-  many = ap length d.paths_are ∙ paths_long (sorted p.pairs) ∙ length-sort_by path_of p.pairs
+  many = ap length d.paths_are ∙ (pairs_named_once p d.named).as_many
 
   -- and no more
   pub writes_are : (before now : ℕ) (first : List (List ℕ)) → first ≡ [] → now + length first ≡ before + length at → now ≡ before + length p.pairs

@@ -2,7 +2,7 @@
 use Rattle.std.proofs.Common.{◌≡◌, ◌∙◌, ◌+◌, ℕ, false, refl, sym, ap, subst, inl, inr, arith, Result, Ok, Err}
 use Rattle.std.proofs.lemmas.Bool.{true≢false}
 use Rattle.std.proofs.lemmas.Result.{IfErr-weaker}
-use Rattle.std.specs.Prelude.{IfErr, OnOk}
+use Rattle.std.specs.Prelude.{IfErr, OnOk, if◌then◌else◌}
 use Rattle.vx_order_answer.specs.declared.errors.OrderError.{OrderError}
 use Rattle.vx_order_answer.specs.declared.errors.OrderError.TheVariants as order
 use Rattle.vx_order_answer.specs.Refusal.{is_fault, is_stop, once}
@@ -13,7 +13,7 @@ use Rattle.vx_write_answer.specs.declared.error.WriteError.TheVariants.{SinkFaul
 use Rattle.vx_write_answer.specs.Causes.{of_order, is_sink_fault, is_compress_fault}
 use Rattle.vx_column_machine.specs.Course.{Course}
 use Rattle.vx_column_machine.specs.Causes.{HasCause, StepPressed}
-use Rattle.vx_column_worker.specs.Worked.{WorkerCause, SharedPast, SinkCause, SeatTold, PressedOnly, is_stopped}
+use Rattle.vx_column_worker.specs.Worked.{WorkerCause, SharedPast, SinkCause, SeatTold, PressedOnly, is_stopped, made_after}
 
 -- ---- by its own machine
 
@@ -111,12 +111,13 @@ pressed_none A count may e h = refl
 
 -- ---- its seat, over steps
 
--- behind steps of which it counted nothing
-pub told_since : {A B : Type 0} (e : WriteError) (faults faults_then faults_now made made_then made_now seen seen_then seen_now : ℕ)
+-- behind steps of which it counted nothing, and the stop that it made, if it made one
+pub told_stopping : {A B : Type 0} (e : WriteError) (faults faults_then faults_now faults_last made made_then made_now made_last seen seen_then seen_now seen_last : ℕ)
     → faults_then ≡ faults → made_then ≡ made → seen_then ≡ seen → SeatTold {A = A} (Err e) faults_then faults_now made_then made_now seen_then seen_now
-    → SeatTold {A = B} (Err e) faults faults_now made made_now seen seen_now
-told_since e faults faults_then faults_now made made_then made_now seen seen_then seen_now f m s t = record {
-  fault = t.fault ∙ ap (λ z. once z (is_sink_fault e)) f;
-  unmade = t.unmade ∙ m;
-  saw = t.saw ∙ ap (λ z. once z (is_stopped e)) s;
+    → faults_last ≡ faults_now → made_last ≡ (if is_stopped e then made_now else 1) → seen_last ≡ seen_now
+    → SeatTold {A = B} (Err e) faults faults_last (made_after {A = B} (Err e) made) made_last seen seen_last
+told_stopping e faults faults_then faults_now faults_last made made_then made_now made_last seen seen_then seen_now seen_last f m s t fl ml sl = record {
+  fault = fl ∙ t.fault ∙ ap (λ z. once z (is_sink_fault e)) f;
+  unmade = ml ∙ ap (λ z. if is_stopped e then z else 1) (t.unmade ∙ m);
+  saw = sl ∙ t.saw ∙ ap (λ z. once z (is_stopped e)) s;
 }

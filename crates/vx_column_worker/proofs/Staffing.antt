@@ -130,8 +130,6 @@ module _ {C : Type 0} (image : ℕ → ℕ → ChunkData → ChunkData) (kind : 
       → IfOk x.outcome (λ r. IsDone (plan_of (course_of (image (kind j.compressor)) j.column j.input chunks)) (layout_data r.0) r.1.items
       × (now ≡ before + length (plan_of (course_of (image (kind j.compressor)) j.column j.input chunks)).pairs))
 
-  pub written_job : (before behind now : ℕ) (o : Option (Job C)) (d : Option (Done C)) (j : Job C) (x : Done C) → Some j ≡ o → d ≡ Some x → now ≡ behind → IsWritten before behind j x
-      → IfSome o (λ k. IfSome d (λ y. IsWritten before now k y))
-  written_job before behind now o d j x job done same h =
-      subst (λ a. IfSome a (λ k. IfSome d (λ y. IsWritten before now k y))) job
-      (subst (λ b. IfSome b (λ y. IsWritten before now j y)) (sym done) (subst (λ n. IsWritten before n j x) (sym same) h))
+  pub written_job : (before now : ℕ) (o : Option (Job C)) (d : Option (Done C)) (j : Job C) (x : Done C) → Some j ≡ o → d ≡ Some x → IsWritten before now j x → IfSome o (λ k. IfSome d (λ y. IsWritten before now k y))
+  written_job before now o d j x job done h =
+      subst (λ a. IfSome a (λ k. IfSome d (λ y. IsWritten before now k y))) job (subst (λ b. IfSome b (λ y. IsWritten before now j y)) (sym done) h)

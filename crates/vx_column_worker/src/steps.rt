@@ -1,6 +1,6 @@
-//! A column's machine, stepped to its end: its segments are taken on to the shared sink, and its bytes are booked.
+//! A column's machine, stepped to its end: its segments are taken on to the shared sink, its front is raised, and its bytes are booked.
 
-ghost use Rattle.std.specs.Prelude.{◌≡◌, ◌+◌, false, length, IfOk, IfErr, OnOk};
+ghost use Rattle.std.specs.Prelude.{◌≡◌, ◌+◌, false, if◌then◌else◌, length, IfOk, IfErr, OnOk};
 ghost use Rattle.vx_layout_tree.specs.LayoutView.{layout_data};
 ghost use Rattle.vx_write_answer.specs.Causes.{is_sink_fault};
 ghost use Rattle.vx_machine_view.specs.Machine.{is_finished};
@@ -9,8 +9,9 @@ ghost use Rattle.vx_column_machine.specs.Course.{Course, plan_of};
 ghost use Rattle.vx_column_machine.specs.Underway.{InBalance};
 ghost use Rattle.vx_column_machine.specs.Causes.{IsDone, StepPressed};
 ghost use Rattle.vx_column_worker.specs.Jobs.{AtWork};
-ghost use Rattle.vx_column_worker.specs.Worked.{WorkerCause, SharedPast, SinkCause, MayWrite, SeatTold, PressedOnly};
+ghost use Rattle.vx_column_worker.specs.Worked.{WorkerCause, SharedPast, SinkCause, MayWrite, SeatTold, PressedOnly, is_stopped, made_after};
 
+use crate::names::name_of;
 use crate::worker::Outcome;
 use std::alloc::AllocError;
 use std::sync::Wait;
@@ -22,7 +23,10 @@ use vx_shared::{BytesSeat, OrderedSink, SharedBytesTracker};
 use vx_sink::{BatchSource, CompressorPlugin, SegmentSink};
 use vx_write_answer::WriteError;
 
-/// Steps until the machine has finished or is refused.
+/// Steps until the machine has finished or is refused; refused, the others are stopped, unless another's stop ended it.
+///
+/// Behind each step the front is raised, and then the bytes are booked. The first front is set as the sink is made, at or below the
+/// machine's least path: so it is raised before the first step too.
 pub(crate) fn steps<
     B: BatchSource + Drop,
     D: CompressorPlugin,
@@ -50,21 +54,38 @@ pub(crate) fn steps<
     ensures writes { IfOk result (λ r. seat.new.writes.amount + length machine.paths.items ≡ seat.old.writes.amount + length r.1.items) }
     ensures refused { IfErr result (λ e. (x : Course) → AtWork B.to_come B.kind B.left P.pairs (D.image (D.kind compressor.old)) x machine
         → WorkerCause (SharedPast P.first (length P.pairs)) x e) }
-    ensures seat { SeatTold result seat.old.faults.amount seat.new.faults.amount seat.old.made.amount seat.new.made.amount seat.old.seen.amount seat.new.seen.amount }
+    // It makes no stop but the refused column's own.
+    ensures seat { SeatTold result seat.old.faults.amount seat.new.faults.amount (made_after result seat.old.made.amount) seat.new.made.amount seat.old.seen.amount seat.new.seen.amount }
     ensures column { seat.new.column ≡ seat.old.column }
     ensures kind { D.kind compressor.new ≡ D.kind compressor.old }
     ensures pressed { PressedOnly (D.faults compressor.old) (D.faults compressor.new) (D.may_fail compressor.old) result }
 {
     let mut raised: Option<Path> = None;
     'steps: for _ in rt.forever() {
+        let Ok(()) = raise(rt, sink, seat, &machine, &mut raised) else {
+            give_up(
+                rt,
+                sink,
+                tracker,
+                seat,
+                bytes,
+                machine,
+                &WriteError::OutOfMemory,
+            );
+            return Err(WriteError::OutOfMemory);
+        };
+        book(rt, tracker, bytes, machine.held());
         if machine.finished() {
-            return Ok(machine.finish_with_paths());
+            let Ok(done) = machine.finish_with_paths() else {
+                stop_others(rt, sink, seat, &WriteError::OutOfMemory);
+                return Err(WriteError::OutOfMemory);
+            };
+            return Ok(done);
         }
-        match turn(rt, sink, seat, &mut machine, &mut raised, compressor) {
-            Ok(()) => book(rt, tracker, bytes, machine.held()),
+        match turn(rt, sink, seat, &mut machine, compressor) {
+            Ok(()) => {}
             Err(error) => {
-                machine.refuse();
-                book(rt, tracker, bytes, 0);
+                give_up(rt, sink, tracker, seat, bytes, machine, &error);
                 return Err(error);
             }
         }
@@ -72,8 +93,61 @@ pub(crate) fn steps<
     unreachable!()
 }
 
-/// One step, before which the front is raised to where it writes next, at the earliest. A segment goes on to the shared
-/// sink.
+/// Stops the others, unless another's stop ended the column; then gives up all that its machine holds, and books nothing for it.
+fn give_up<
+    B: BatchSource + Drop,
+    S: SegmentSink,
+    R: Wait,
+    W: Ledger,
+    F: Ledger,
+    M: Ledger,
+    N: Ledger,
+    L: Ledger,
+    P: Pairs,
+>(
+    rt: &R,
+    sink: &OrderedSink<S, W, F, M, N, P>,
+    tracker: &SharedBytesTracker<L>,
+    seat: &mut Seat<W, F, M, N, P>,
+    bytes: &mut BytesSeat<L>,
+    machine: ColumnMachine<B>,
+    error: &WriteError,
+)
+    requires { InBalance B.may_fail machine }
+    ensures made { seat.new.made.amount ≡ (if is_stopped error.now then seat.old.made.amount else 1) }
+    ensures column { seat.new.column ≡ seat.old.column }
+    ensures writes { seat.new.writes.amount ≡ seat.old.writes.amount }
+    ensures faults { seat.new.faults.amount ≡ seat.old.faults.amount }
+    ensures seen { seat.new.seen.amount ≡ seat.old.seen.amount }
+{
+    stop_others(rt, sink, seat, error);
+    machine.refuse();
+    book(rt, tracker, bytes, 0);
+}
+
+/// Stops the other columns, unless another's stop ended this one.
+pub(crate) fn stop_others<
+    S: SegmentSink,
+    R: Wait,
+    W: Ledger,
+    F: Ledger,
+    M: Ledger,
+    N: Ledger,
+    P: Pairs,
+>(rt: &R, sink: &OrderedSink<S, W, F, M, N, P>, seat: &mut Seat<W, F, M, N, P>, error: &WriteError)
+    ensures made { seat.new.made.amount ≡ (if is_stopped error.now then seat.old.made.amount else 1) }
+    ensures column { seat.new.column ≡ seat.old.column }
+    ensures writes { seat.new.writes.amount ≡ seat.old.writes.amount }
+    ensures faults { seat.new.faults.amount ≡ seat.old.faults.amount }
+    ensures seen { seat.new.seen.amount ≡ seat.old.seen.amount }
+{
+    let Some(name) = name_of(error) else {
+        return;
+    };
+    sink.stop(rt, seat, name);
+}
+
+/// One step. A segment goes on to the shared sink.
 fn turn<
     B: BatchSource + Drop,
     D: CompressorPlugin,
@@ -89,7 +163,6 @@ fn turn<
     sink: &OrderedSink<S, W, F, M, N, P>,
     seat: &mut Seat<W, F, M, N, P>,
     machine: &mut ColumnMachine<B>,
-    raised: &mut Option<Path>,
     compressor: &mut D,
 ) -> Result<(), WriteError>
     requires balance { InBalance B.may_fail machine.old }
@@ -106,7 +179,6 @@ fn turn<
     ensures kind { D.kind compressor.new ≡ D.kind compressor.old }
     ensures pressed { StepPressed (D.faults compressor.old) (D.faults compressor.new) (D.may_fail compressor.old) (D.may_fail compressor.new) result }
 {
-    raise(rt, sink, seat, machine, raised)?;
     let written = machine.step(compressor)?;
     match written {
         Some(segment) => hand_on(rt, sink, seat, machine.paths(), segment.as_slice()),
@@ -114,7 +186,8 @@ fn turn<
     }
 }
 
-/// Raises the column's front to where it writes next, at the earliest, unless it was raised there last.
+/// Raises the column's front to the least path that its machine holds, or to nothing where it holds none, unless it was raised there
+/// last.
 fn raise<
     B: BatchSource + Drop,
     S: SegmentSink,
@@ -131,21 +204,24 @@ fn raise<
     machine: &ColumnMachine<B>,
     raised: &mut Option<Path>,
 ) -> Result<(), AllocError> {
-    let Some(front) = machine.front()? else {
+    let front = machine.front()?;
+    if stands_at(raised, &front) {
         return Ok(());
-    };
-    if !stands_at(raised, &front) {
-        *raised = Some(front.clone()?);
-        sink.raise(rt, seat, Some(front));
     }
+    *raised = match &front {
+        Some(path) => Some(path.clone()?),
+        None => None,
+    };
+    sink.raise(rt, seat, front);
     Ok(())
 }
 
 /// Whether it was raised there last.
-fn stands_at(raised: &Option<Path>, front: &Path) -> bool {
-    match raised {
-        Some(path) => path == front,
-        None => false,
+fn stands_at(raised: &Option<Path>, front: &Option<Path>) -> bool {
+    match (raised, front) {
+        (Some(last), Some(path)) => last == path,
+        (None, None) => true,
+        _ => false,
     }
 }
 

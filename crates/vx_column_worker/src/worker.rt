@@ -10,8 +10,7 @@ ghost use Rattle.vx_column_machine.specs.Causes.{IsDone};
 ghost use Rattle.vx_column_worker.specs.Jobs.{JobFits, course_of};
 ghost use Rattle.vx_column_worker.specs.Worked.{WorkerCause, SharedPast, SeatTold, SeatStopped, PressedOnly, made_after};
 
-use crate::names::name_of;
-use crate::steps::steps;
+use crate::steps::{steps, stop_others};
 use std::alloc::Global;
 use std::mem;
 use std::sync::Wait;
@@ -103,7 +102,6 @@ impl<C: CompressorPlugin, W: Ledger, F: Ledger, M: Ledger, N: Ledger, L: Ledger,
             return;
         };
         let done = self.write(rt, alloc, gate, sink, tracker, job);
-        stop_others(rt, sink, &mut self.seat, &done.outcome);
         sink.raise(rt, &self.seat, None);
         match mem::replace(&mut self.done, Some(done)) {
             None => {}
@@ -111,7 +109,7 @@ impl<C: CompressorPlugin, W: Ledger, F: Ledger, M: Ledger, N: Ledger, L: Ledger,
         }
     }
 
-    /// Writes the column, its compressor behind the gate.
+    /// Writes the column, its compressor behind the gate. Refused, it stops the others, unless another's stop ended it.
     fn write<S: SegmentSink, G: Gate, R: Wait>(
         &mut self,
         rt: &R,
@@ -129,7 +127,7 @@ impl<C: CompressorPlugin, W: Ledger, F: Ledger, M: Ledger, N: Ledger, L: Ledger,
             × (self.new.seat.writes.amount ≡ self.old.seat.writes.amount + length (plan_of (course_of (C.image (C.kind job.compressor)) job.column job.input chunks)).pairs)) }
         ensures refused { (chunks : List ChunkData) → ⟦<ListSource as BatchSource>⟧.to_come job.input.source ≡ Some chunks
             → IfErr result.outcome (WorkerCause (SharedPast P.first (length P.pairs)) (course_of (C.image (C.kind job.compressor)) job.column job.input chunks)) }
-        ensures seat { SeatTold result.outcome self.old.seat.faults.amount self.new.seat.faults.amount self.old.seat.made.amount self.new.seat.made.amount
+        ensures seat { SeatTold result.outcome self.old.seat.faults.amount self.new.seat.faults.amount (made_after result.outcome self.old.seat.made.amount) self.new.seat.made.amount
             self.old.seat.seen.amount self.new.seat.seen.amount }
         ensures column { self.new.seat.column ≡ self.old.seat.column }
         ensures same_job { self.new.job ≡ self.old.job }
@@ -160,7 +158,8 @@ impl<C: CompressorPlugin, W: Ledger, F: Ledger, M: Ledger, N: Ledger, L: Ledger,
         }
     }
 
-    /// Begins the column's own machine at the part's ids, and steps it to its end.
+    /// Begins the column's own machine at the part's ids, and steps it to its end. Refused, it stops the others, unless another's stop
+    /// ended it.
     fn run_machine<D: CompressorPlugin, S: SegmentSink, R: Wait>(
         &mut self,
         rt: &R,
@@ -180,7 +179,7 @@ impl<C: CompressorPlugin, W: Ledger, F: Ledger, M: Ledger, N: Ledger, L: Ledger,
             × (self.new.seat.writes.amount ≡ self.old.seat.writes.amount + length (plan_of (course_of (D.image (D.kind compressor.old)) column input chunks)).pairs)) }
         ensures refused { (chunks : List ChunkData) → ⟦<ListSource as BatchSource>⟧.to_come input.source ≡ Some chunks
             → IfErr result (WorkerCause (SharedPast P.first (length P.pairs)) (course_of (D.image (D.kind compressor.old)) column input chunks)) }
-        ensures seat { SeatTold result self.old.seat.faults.amount self.new.seat.faults.amount self.old.seat.made.amount self.new.seat.made.amount
+        ensures seat { SeatTold result self.old.seat.faults.amount self.new.seat.faults.amount (made_after result self.old.seat.made.amount) self.new.seat.made.amount
             self.old.seat.seen.amount self.new.seat.seen.amount }
         ensures column { self.new.seat.column ≡ self.old.seat.column }
         ensures same_job { self.new.job ≡ self.old.job }
@@ -193,44 +192,21 @@ impl<C: CompressorPlugin, W: Ledger, F: Ledger, M: Ledger, N: Ledger, L: Ledger,
         let Input { way, source, ctx } = input;
         // No encoding is listed twice.
         ctx.array_ctx().ids();
-        let machine = ColumnMachine::begin(
-            alloc,
-            way.strategy.strategy(),
-            ctx,
-            source,
-            column,
-            part,
-        )?;
-        steps(
-            rt,
-            sink,
-            tracker,
-            &mut self.seat,
-            &mut self.bytes,
-            machine,
-            compressor,
-        )
+        let begun = ColumnMachine::begin(alloc, way.strategy.strategy(), ctx, source, column, part);
+        match begun {
+            Ok(machine) => steps(
+                rt,
+                sink,
+                tracker,
+                &mut self.seat,
+                &mut self.bytes,
+                machine,
+                compressor,
+            ),
+            Err(error) => {
+                stop_others(rt, sink, &mut self.seat, &error);
+                Err(error)
+            }
+        }
     }
-}
-
-/// Stops the other columns where this one was refused, unless another's stop ended it.
-fn stop_others<S: SegmentSink, R: Wait, W: Ledger, F: Ledger, M: Ledger, N: Ledger, P: Pairs>(
-    rt: &R,
-    sink: &OrderedSink<S, W, F, M, N, P>,
-    seat: &mut Seat<W, F, M, N, P>,
-    outcome: &Outcome,
-)
-    ensures made { seat.new.made.amount ≡ made_after outcome.now seat.old.made.amount }
-    ensures column { seat.new.column ≡ seat.old.column }
-    ensures writes { seat.new.writes.amount ≡ seat.old.writes.amount }
-    ensures faults { seat.new.faults.amount ≡ seat.old.faults.amount }
-    ensures seen { seat.new.seen.amount ≡ seat.old.seen.amount }
-{
-    let Err(error) = outcome else {
-        return;
-    };
-    let Some(name) = name_of(error) else {
-        return;
-    };
-    sink.stop(rt, seat, name);
 }

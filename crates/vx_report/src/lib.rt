@@ -6,8 +6,6 @@ mod row_text;
 mod trace_text;
 mod zone_text;
 
-pub use report_text::{
-    columns_head, columns_report, refused_columns, refused_report, report, report_head,
-};
+pub use report_text::{columns_head, refused_columns, refused_report, report, report_head};
 pub use row_text::row_lines;
 pub use zone_text::TableRows;

@@ -60,26 +60,7 @@ pub fn report_head(
     Ok(out)
 }
 
-/// The report of a write by columns: that of a write without its steps.
-#[tactic(auto, using(crate::proofs::Lines::text_rules))]
-pub fn columns_report(
-    alloc: Global,
-    first: u64,
-    layout: &Layout,
-    segments: &[Blob],
-    tables: &[TableRows],
-    rows: &[Value],
-) -> Result<String, AllocError>
-    requires numbered { first + length segments.now < 2 ^ 64 }
-    requires tables { AreTables tables.now (zone_tables (layout_data layout.now)) }
-    ensures { IfOk result (λ text. string_bytes text ≡ columns_report first (layout_data layout.now) segments.now (rows_of tables.now) (map val rows.now)) }
-{
-    let mut out = columns_head(alloc, first, layout, segments, tables)?;
-    push_rows(alloc, &mut out, rows)?;
-    Ok(out)
-}
-
-/// The report of a write by columns up to its rows.
+/// The report of a write by columns, that of a write without its steps, up to its rows.
 #[tactic(auto, using(crate::proofs::Lines::text_rules))]
 pub fn columns_head(
     alloc: Global,
@@ -150,10 +131,7 @@ pub fn refused_report(
     requires { first + length segments.now < 2 ^ 64 }
     ensures { IfOk result (λ text. string_bytes text ≡ refused_report name.now first segments.now steps.now) }
 {
-    let mut out = String::from_str(alloc, "refused ")?;
-    out.push_str(name)?;
-    out.push_str("\nsegments\n")?;
-    push_segments(alloc, &mut out, first, segments)?;
+    let mut out = refused_columns(alloc, name, first, segments)?;
     out.push_str("trace\n")?;
     push_steps(&mut out, steps)?;
     Ok(out)

@@ -157,10 +157,10 @@ module _ (s : Setting) (w : StrategyData) (t : Ty) (m : Bool) (passes : List Chu
 
   -- behind the source's end, whatever stands
   module _ (next : ℕ) (now : Option (List (List ℕ))) (taken : List ChunkData) (told : SourceTold faults faults_now may must to_come to_come_now taken true false) (typed : OfSchema t taken)
-      (other : OfReading e → ⊥) (cause : HasColumnsCause t (passes taken) (source_plan s w t m taken true) taken first e) (whose : (e ≡ OutOfMemory) ⊎ SplitStops t taken e ⊎ columns taken e) where
-    pub halted_behind : (stood : List (List ℕ)) → AreSome (source_plan s w t m taken true) stood → now ≡ then_told before stood → next ≡ first + length stood → next ≤ max first (2 ^ 32)
+      (other : OfReading e → ⊥) (cause : HasColumnsCause t (passes taken) (source_plan s w t m taken true) taken first e) where
+    pub halted_behind : (stood : List (List ℕ)) → (e ≡ OutOfMemory) ⊎ (SplitStops t taken e × (stood ≡ [])) ⊎ columns taken e → AreSome (source_plan s w t m taken true) stood → now ≡ then_told before stood → next ≡ first + length stood → next ≤ max first (2 ^ 32)
         → ColumnsHalted s w t m passes columns first next faults faults_now may must to_come to_come_now before now e
-    halted_behind stood some stands numbers last = record {
+    halted_behind stood whose some stands numbers last = record {
       taken = taken;
       heard = true;
       told = subst (λ b. SourceTold faults faults_now may must to_come to_come_now taken true b) (sym (not_source e other)) told;
@@ -180,8 +180,7 @@ module _ (s : Setting) (w : StrategyData) (t : Ty) (m : Bool) (passes : List Chu
       → ColumnsHalted s w t m passes columns first first faults faults_now may must to_come to_come_now before before e
   halted_whole v d ws fs n is at_type r =
       halted_behind first before r.taken r.told r.typed (split_not_reading t r.taken e r.cause) (rows_cause t w s m r.taken (passes r.taken) first e v d ws fs n is at_type r.cause)
-      (inr (inl r.cause))
-      [] (none_written (source_plan s w t m r.taken true)) (then_same before) (sym (add-zero first)) none_last
+      [] (inr (inl (r.cause, refl))) (none_written (source_plan s w t m r.taken true)) (then_same before) (sym (add-zero first)) none_last
 
 -- where nothing was prepared
 module _ (s : Setting) (w : StrategyData) (t : Ty) (m : Bool) (passes : List ChunkData → ℕ → Type 0) (columns : List ChunkData → WriteError → Type 0) (first : ℕ) (faults faults_now : ℕ) (may must : ℕ → Type 0)
@@ -226,7 +225,7 @@ module _ (s : Setting) (v d : StrategyData) (ws : StrategyList) (m : Bool) (fs :
         by : HasAt (SharedPast first (length (allowed_by p.pairs))) e xs → Cause first e
         by (k, x, there, own, c) = cause_beside s v d ws m fs n bs distinct w at_type first k x e there (subst (λ z. WorkerCause (SharedPast first z) x e) (length_allowed p.pairs) c) own
 
-    first_here : Whose → (e ≡ OutOfMemory) ⊎ SplitStops (struct fs n) bs e ⊎ IsFirstRefusal s w (struct fs n) m first tells bs e
+    first_here : {A : Type 0} → Whose → (e ≡ OutOfMemory) ⊎ A ⊎ IsFirstRefusal s w (struct fs n) m first tells bs e
     first_here (inl is) = inl is
     first_here (inr h) =
         let same : length (allowed_by p.pairs) ≡ length (source_plan s w (struct fs n) m bs true).pairs
@@ -241,6 +240,5 @@ module _ (s : Setting) (v d : StrategyData) (ws : StrategyList) (m : Bool) (fs :
       let c : Cause first e = one_cause first tells e h.whose in
       halted_behind s w (struct fs n) m (PassesBeside s w (struct fs n) m) (IsFirstRefusal s w (struct fs n) m first tells) first faults faults_now may must to_come to_come_now before e next now bs told typed c.1
       (subst (λ (z : Plan). HasColumnsCause (struct fs n) (PassesBeside s w (struct fs n) m bs) z bs first e) (sym (same_plan s v d ws m fs n bs distinct w at_type)) c.0)
-      (first_here first tells e h.whose)
-      (stored (allowed_by p.pairs) h.history) (some_written s v d ws m fs n bs distinct w at_type first next before now h.history h.stands)
+      (stored (allowed_by p.pairs) h.history) (first_here first tells e h.whose) (some_written s v d ws m fs n bs distinct w at_type first next before now h.history h.stands)
       h.stands.stands (next_stored (allowed_by p.pairs) first next before now h.history h.stands) h.stands.last

@@ -62,8 +62,8 @@ pub record ColumnsHalted (s : Setting) (w : StrategyData) (t : Ty) (m : Bool) (p
   -- no segment has a number past 32 bits
   pub last : next ≤ max first (2 ^ 32)
   pub cause : HasColumnsCause t (passes taken) (taken_plan s w t m taken heard) taken first e
-  -- behind the source's end: want of memory, a refusal of all batches before they are written, or that of a column
-  pub whose : heard ≡ true → (e ≡ OutOfMemory) ⊎ SplitStops t taken e ⊎ columns taken e
+  -- behind the source's end: want of memory, a refusal of all batches before any is written, or that of a column
+  pub whose : heard ≡ true → (e ≡ OutOfMemory) ⊎ (SplitStops t taken e × (stood ≡ [])) ⊎ columns taken e
 
 -- ---- faults
 

@@ -10,12 +10,12 @@ use Rattle.vx_column_worker.proofs.steps.turn.Goals as goal
 
 pub returns-in_err-written-clause-refused : goal.returns-in_err-written-clause-refused
 returns-in_err-written-clause-refused g c =
-    let p = err_from_is_err_and c.from_residual-in_err-written.result c.from_residual-in_err-written.ensures.1 in
+    let p = err_from_is_err_and c.from_residual.result c.from_residual.ensures.1 in
     rw (p.1, p.2) (λ x w. own_cause (SharedPast g.P.Pairs.first (length g.P.Pairs.pairs)) x c.in_err-written.field-0.0 (c.in_err-written.ensures.cause x w.set w.underway))
 
 pub returns-in_err-written-clause-seat : goal.returns-in_err-written-clause-seat
 returns-in_err-written-clause-seat g c =
-    let p = err_from_is_err_and c.from_residual-in_err-written.result c.from_residual-in_err-written.ensures.1 in
+    let p = err_from_is_err_and c.from_residual.result c.from_residual.ensures.1 in
     let a = c.requires.at_work in
     rw (p.1, p.2) (own_told a.0 c.in_err-written.field-0.0 (c.in_err-written.ensures.cause a.0 a.1.set a.1.underway)
     c.args.seat.now.faults.amount c.args.seat.now.faults.amount c.args.seat.now.made.amount c.args.seat.now.made.amount c.args.seat.now.seen.amount c.args.seat.now.seen.amount refl refl refl)

@@ -1,44 +1,44 @@
-use Rattle.std.proofs.Common.{◌∙◌, ℕ, length, sym, ap, map}
-use Rattle.vx_model.specs.TyView.{ty}
-use Rattle.vx_model.specs.Ty.{Ty}
-use Rattle.vx_layout_spec.specs.LayoutTree.{chunked_kind, struct_kind}
-use Rattle.vx_session.specs.Kinds.{struct_types}
+use Rattle.std.proofs.Common.{◌∙◌, sym, map}
 use Rattle.vx_layout_tree.specs.LayoutView.{layout_data, number}
-use Rattle.vx_renumber.specs.Numbers.{number_at}
-use Rattle.vx_renumber.proofs.Parts.{parts_renamed, rows_each, count_each}
+use Rattle.vx_renumber.proofs.Parts.{headed_in_turn}
 use Rattle.vx_renumber.proofs.numbering.+renumbering.Goals as goal
 
-pub renumbered-chunked_of-requires : goal.renumbered-chunked_of-requires
-renumbered-chunked_of-requires t c =
-    let f : ℕ → ℕ = number_at (map number c.args.numbers.now) in
+pub numbered-returns-in_ok-children-in-Chunked-Owned-clause-same : goal.numbered-returns-in_ok-children-in-Chunked-Owned-clause-same
+numbered-returns-in_ok-children-in-Chunked-Owned-clause-same t c =
     let e = rw c.in-Chunked-Owned.field-0-is at c.in-Chunked-Owned.ensures in
-    let s = rw c.deref.ensures.value at c.in_ok-children-in-Chunked-Owned.ensures in
-    rows_each f c.in-Chunked-Owned.children.items c.in_ok-children-in-Chunked-Owned.children.items s ∙ e.2 ∙ sym c.in_ok-head-in-Chunked-Owned.ensures.rows
-
-pub renumbered-struct_of-requires : goal.renumbered-struct_of-requires
-renumbered-struct_of-requires t c =
-    let f : ℕ → ℕ = number_at (map number c.args.numbers.now) in
-    let e = rw c.in-Struct-Owned.field-0-is at c.in-Struct-Owned.ensures in
-    let s = rw c.deref-in-Struct-Owned.ensures.value at c.in_ok-children-in-Struct-Owned.ensures in
-    count_each f c.in-Struct-Owned.children.items c.in_ok-children-in-Struct-Owned.children.items s ∙ e.2
-    ∙ ap (λ (z : Ty). length (struct_types z)) (sym c.in_ok-head-in-Struct-Owned.ensures.dtype)
-
-pub renumbered-returns-in_ok-children-in-Chunked-Owned : goal.renumbered-returns-in_ok-children-in-Chunked-Owned
-renumbered-returns-in_ok-children-in-Chunked-Owned t c =
-    let f : ℕ → ℕ = number_at (map number c.args.numbers.now) in
-    let e = rw c.in-Chunked-Owned.field-0-is at c.in-Chunked-Owned.ensures in
-    let s = rw c.deref.ensures.value at c.in_ok-children-in-Chunked-Owned.ensures in
+    let s = rw c.deref.ensures.value at c.in_ok-children-in-Chunked-Owned.ensures.same in
     let h = c.in_ok-head-in-Chunked-Owned in
     c.chunked_of.ensures
-    ∙ parts_renamed f (layout_data c.args.layout.now) chunked_kind (ty h.head.dtype) h.head.row_count (map number h.head.segment_ids.items) c.in-Chunked-Owned.children.items
-    c.in_ok-children-in-Chunked-Owned.children.items e.0 h.ensures.dtype h.ensures.rows h.ensures.segments e.1 s
+    ∙ headed_in_turn (layout_data c.args.layout.now) _ h.head c.args.next.now c.head_of.new.next (map number c.args.numbers.now) c.in-Chunked-Owned.children.items c.in_ok-children-in-Chunked-Owned.children.items
+    e.0 e.1 h.ensures.rows h.ensures.dtype h.ensures.segments h.ensures.next s
 
-pub renumbered-returns-in_ok-children-in-Struct-Owned : goal.renumbered-returns-in_ok-children-in-Struct-Owned
-renumbered-returns-in_ok-children-in-Struct-Owned t c =
-    let f : ℕ → ℕ = number_at (map number c.args.numbers.now) in
+pub numbered-returns-in_ok-children-in-Struct-Owned-clause-same : goal.numbered-returns-in_ok-children-in-Struct-Owned-clause-same
+numbered-returns-in_ok-children-in-Struct-Owned-clause-same t c =
     let e = rw c.in-Struct-Owned.field-0-is at c.in-Struct-Owned.ensures in
-    let s = rw c.deref-in-Struct-Owned.ensures.value at c.in_ok-children-in-Struct-Owned.ensures in
+    let s = rw c.deref-in-Struct-Owned.ensures.value at c.in_ok-children-in-Struct-Owned.ensures.same in
     let h = c.in_ok-head-in-Struct-Owned in
     c.struct_of.ensures
-    ∙ parts_renamed f (layout_data c.args.layout.now) struct_kind (ty h.head.dtype) h.head.row_count (map number h.head.segment_ids.items) c.in-Struct-Owned.children.items
-    c.in_ok-children-in-Struct-Owned.children.items e.0 h.ensures.dtype h.ensures.rows h.ensures.segments e.1 s
+    ∙ headed_in_turn (layout_data c.args.layout.now) _ h.head c.args.next.now c.head_of-in-Struct-Owned.new.next (map number c.args.numbers.now) c.in-Struct-Owned.children.items c.in_ok-children-in-Struct-Owned.children.items
+    e.0 e.1 h.ensures.rows h.ensures.dtype h.ensures.segments h.ensures.next s
+
+pub numbered-returns-else-len-from-clause-same : goal.numbered-returns-else-len-from-clause-same
+numbered-returns-else-len-from-clause-same t c =
+    let h = c.in_ok-head-in-List in
+    c.from_parts.ensures
+    ∙ headed_in_turn (layout_data c.args.layout.now) _ h.head c.args.next.now c.head_of-in-List.new.next (map number c.args.numbers.now) c.in-List.children.now c.in_ok-children-in-List.children.items
+    c.in-List.ensures.0 c.in-List.ensures.1 h.ensures.rows h.ensures.dtype h.ensures.segments h.ensures.next c.in_ok-children-in-List.ensures.same
+
+pub numbered-returns-in_ok-children-in-Dict-clause-same : goal.numbered-returns-in_ok-children-in-Dict-clause-same
+numbered-returns-in_ok-children-in-Dict-clause-same t c =
+    let h = c.in_ok-head-in-Dict in
+    c.from_parts-in-Dict.ensures
+    ∙ headed_in_turn (layout_data c.args.layout.now) _ h.head c.args.next.now c.head_of-in-Dict.new.next (map number c.args.numbers.now) c.in-Dict.children.now c.in_ok-children-in-Dict.children.items
+    c.in-Dict.ensures.0 c.in-Dict.ensures.1 h.ensures.rows h.ensures.dtype h.ensures.segments h.ensures.next c.in_ok-children-in-Dict.ensures.same
+
+pub numbered-returns-in_ok-children-in-Zoned-clause-same : goal.numbered-returns-in_ok-children-in-Zoned-clause-same
+numbered-returns-in_ok-children-in-Zoned-clause-same t c =
+    let kind = rw (sym c.in_ok-aggregates-in-Zoned.ensures.items) at c.in-Zoned.ensures.0 in
+    let h = c.in_ok-head-in-Zoned in
+    c.from_parts-in-Zoned.ensures
+    ∙ headed_in_turn (layout_data c.args.layout.now) _ h.head c.args.next.now c.head_of-in-Zoned.new.next (map number c.args.numbers.now) c.in-Zoned.children.now c.in_ok-children-in-Zoned.children.items
+    kind c.in-Zoned.ensures.1 h.ensures.rows h.ensures.dtype h.ensures.segments h.ensures.next c.in_ok-children-in-Zoned.ensures.same

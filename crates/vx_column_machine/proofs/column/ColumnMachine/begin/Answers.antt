@@ -42,11 +42,13 @@ returns-clause-balance g c =
       counts = c.requires.none ∙ sym c.in_ok-machine.ensures.unreserved;
       kept = still_kept (written_of c.new-desk.result) (written_of c.start_at.new.order) (kept_of c.new-desk.result) (kept_of c.start_at.new.order) c.in_ok-machine.ensures.outlet ∙ c.new-desk.ensures.kept;
       steady = c.requires.steady;
+      unordered = c.new-ordered.ensures.len;
+      room = omega (arith, c.new-paths.ensures.len);
     }
 
 pub returns-clause-underway : goal.returns-clause-underway
 returns-clause-underway g c = λ x given. record {
-  stands = rw c.new.ensures.items (stands x (allowed_in c.args.ctx) (strategy_data c.args.strategy.now) (g.B.BatchSource.kind c.args.source) (is_marked c.args.ctx) c.args.column (outset_of c.args.part) (g.B.BatchSource.to_come c.args.source) given
+  stands = rw c.new-paths.ensures.items (stands x (allowed_in c.args.ctx) (strategy_data c.args.strategy.now) (g.B.BatchSource.kind c.args.source) (is_marked c.args.ctx) c.args.column (outset_of c.args.part) (g.B.BatchSource.to_come c.args.source) given
       (machine_of c.in_ok-machine.machine) (written_of c.start_at.new.order)
       (still_next (written_of c.new-desk.result) (written_of c.start_at.new.order) (kept_of c.new-desk.result) (kept_of c.start_at.new.order) c.in_ok-machine.ensures.outlet ∙ c.new-desk.ensures.written)
       (rw c.dtype.ensures at c.in_ok-machine.ensures.begins) (rw c.dtype.ensures at c.in_ok-machine.ensures.counted));

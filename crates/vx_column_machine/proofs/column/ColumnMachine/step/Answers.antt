@@ -60,8 +60,8 @@ returns-in_default-clause-led g c = λ x set h.
     let l = led x u m c.requires.balance.exact before w ps h.stands (setting_of c.args.self.now.ctx (g.C.CompressorPlugin.image (g.C.CompressorPlugin.kind c.args.compressor.now))) t now v k d c.step.new.self c.in_ok-_step._step
     (c.in_ok-_step.ensures.leads c.requires.balance.exact) set h.type_is in
     record {
-      stands = subst (λ z. StandsAt x (machine_of c.step.new.self) now z c.reserve.new.self.items) (sym c.take-kept.ensures.written)
-          (subst (λ z. StandsAt x (machine_of c.step.new.self) now v z) (sym c.reserve.ensures.items)
+      stands = subst (λ z. StandsAt x (machine_of c.step.new.self) now z c.make_room.new.paths.items) (sym c.take-kept.ensures.written)
+          (subst (λ z. StandsAt x (machine_of c.step.new.self) now v z) (sym c.make_room.ensures.same)
           (stands_none x u m c.requires.balance.exact before w ps h.stands now v k d c.step.new.self c.in_ok-_step._step l c.in_ok-_step.ensures.told.1 c.requires.balance.kept c.writes.ensures
           c.take-kept.result.items e (sym c.take-kept.result.ok.0 ∙ c.in_default.ensures.cases.0)));
       type_is = c.step.ensures.kind ∙ h.type_is;
@@ -111,7 +111,7 @@ returns-clause-led g c = λ x set h.
           (wrote_on x u m c.requires.balance.exact before w ps h.stands now v k d c.step.new.self c.in_ok-_step._step l c.in_ok-_step.ensures.told.1 c.requires.balance.kept c.writes.ensures
           c.take-kept.result.items e c.courses.ensures.front c.pop.new.self.items c.in-Some.segment c.in-Some.ensures.items
           c.in-Some-here.path f.0 f.1 c.push_reserved.new.self.items
-          (c.push_reserved.ensures.items ∙ ap (λ z. z ++ (c.in-Some-here.path ∷ [])) c.reserve.ensures.items)).0;
+          (c.push_reserved.ensures.items ∙ ap (λ z. z ++ (c.in-Some-here.path ∷ [])) c.make_room.ensures.same)).0;
       type_is = c.step.ensures.kind ∙ h.type_is;
       number_is = h.number_is;
       enough = c.in_ok-_step.ensures.enough;
@@ -136,4 +136,4 @@ returns-clause-wrote g c = λ x set h.
     (wrote_on x u m c.requires.balance.exact before w ps h.stands now v k d c.step.new.self c.in_ok-_step._step l c.in_ok-_step.ensures.told.1 c.requires.balance.kept c.writes.ensures
     c.take-kept.result.items e c.courses.ensures.front c.pop.new.self.items c.in-Some.segment c.in-Some.ensures.items
     c.in-Some-here.path f.0 f.1 c.push_reserved.new.self.items
-    (c.push_reserved.ensures.items ∙ ap (λ z. z ++ (c.in-Some-here.path ∷ [])) c.reserve.ensures.items)).1
+    (c.push_reserved.ensures.items ∙ ap (λ z. z ++ (c.in-Some-here.path ∷ [])) c.make_room.ensures.same)).1
